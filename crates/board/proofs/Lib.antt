@@ -1,0 +1,3 @@
+-- Lemmas on boards.
+pub mod First
+pub mod Valid
