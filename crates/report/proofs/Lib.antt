@@ -1,0 +1,2 @@
+-- Lemmas on what the programs print.
+pub mod Lines

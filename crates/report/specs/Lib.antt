@@ -1,0 +1,2 @@
+-- The specifications of what the programs print.
+pub mod Text

@@ -1,0 +1,2 @@
+// What the programs print, as text.
+pub mod sheets;
