@@ -1,4 +1,4 @@
-// Sheets, and what is printed of them. The bytes were reckoned by an encoder of its own, from the format's rules.
+// Sheets, and what is printed of them. The bytes are those of tools/encode_sheets.py, an encoder of its own.
 use layout::fault::Layer;
 use layout::fault::LayerDebug;
 use layout::fault::LayerPartialEq;

@@ -102,7 +102,7 @@ fn a_full_sheet_is_written() -> Result<(), Fail> {
     let mut buffer = [0xee; 2501];
     check_eq(write(&frame, &routes, &mut buffer)?, 2500)?;
     check_eq(buffer[2500], 0xee)?;
-    // as an encoder of its own has it
+    // as tools/encode_sheets.py has it
     check_eq(weighed(&buffer[0..2500]), 355656482)
 }
 
