@@ -25,10 +25,10 @@ abbrev pub Took : List ℕ → ℕ → ℕ → ℕ → List ℕ → ℕ → Type
 Took b q w n b′ q′ = record { answer : Ok n ≡ taken (bitsOf b) q w; bound : n < 2 ^ w; position : q′ ≡ q + w; bytes : b′ ≡ b }
 
 -- the number taken, or the fault, by whether the bits are there
-by-held : (b v : Bool) (n : ℕ) (x : ℕ) (f e : BitFault) → v ≡ true → Ok n ≡ cond (b && v) (Ok x) (Err f) → (b ≡ true) × (n ≡ x)
-by-held true true n x f e h t = (refl, cc)
-by-held true false n x f e h t = let z : _≡_ {A = ℕ} 0 1 = cc in absurd (omega arith)
-by-held false v n x f e h t = let z : _≡_ {A = ℕ} 0 1 = cc in absurd (omega arith)
+by-held : (b v : Bool) (n : ℕ) (x : ℕ) (f : BitFault) → v ≡ true → Ok n ≡ cond (b && v) (Ok x) (Err f) → (b ≡ true) × (n ≡ x)
+by-held true true n x f h t = (refl, cc)
+by-held true false n x f h t = let z : _≡_ {A = ℕ} 0 1 = cc in absurd (omega arith)
+by-held false v n x f h t = let z : _≡_ {A = ℕ} 0 1 = cc in absurd (omega arith)
 
 by-missing : (b v : Bool) (x : ℕ) (f e : BitFault) → v ≡ true → Err e ≡ cond (b && v) (Ok x) (Err f) → (b ≡ false) × (e ≡ f)
 by-missing true true x f e h t = let z : _≡_ {A = ℕ} 0 1 = cc in absurd (omega arith)
@@ -54,7 +54,7 @@ module _ (b : List ℕ) (p : ℕ) (small : p < 2 ^ 32) where
       let a : Ok n ≡ taken (bitsOf b) (p + offset f) (width f) = t .answer ∙ ap (λ (x : List ℕ). taken (bitsOf x) q (width f)) eb ∙ ap (λ (x : ℕ). taken (bitsOf b) x (width f)) eq in
       let h =
       by-held (held (bitsOf b) (p + offset f) (width f)) (ltb (p + offset f + width f) (2 ^ 64)) n (fieldAt (bitsOf b) (p + offset f) (width f))
-      (shortAt (p + offset f)) (shortAt 0) (reach f) a
+      (shortAt (p + offset f)) (reach f) a
       in
       (ap (λ (x : Bool). cond x (asked fs) (Some (shortAt (p + offset f)))) (h .0), h .1, t .bytes ∙ eb, t .position ∙ ap (λ (x : ℕ). x + width f) eq)
 
