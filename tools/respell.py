@@ -4,7 +4,7 @@
 usage: tools/respell.py            at the top of the repository, once, right after the kit's port.py
        tools/respell.py --list     says what it would respell, and changes nothing
 
-A name is respelled where a file of specs/ or proofs/ declares it and it has a capital inside, or a dash.
+A name is respelled where a file of specs/ or proofs/ declares it (also as a field, or inside a section) and it has a capital inside, or a dash.
 Generated names (goals, invariants, measures) stay, and so do the words of src/ that are no ghost text: none of them has a capital inside.
 A name that would fall together with another of the same file stops the run before anything is written."""
 import re
@@ -12,9 +12,10 @@ import subprocess
 import sys
 
 TOKEN = re.compile(r"[A-Za-z_][\w'\-]*")
-DECLARED = re.compile(r"^(?:(?:abbrev|unfoldable)\s+)?(?:pub\s+)?(?:(?:abbrev|data|record|ruleset)\s+)?(?:pub\s+)?([A-Za-z_][\w'\-]*)\s*:\s(.*)$")
+DECLARED = re.compile(r"^\s*(?:(?:abbrev|unfoldable)\s+)?(?:pub\s+)?(?:(?:abbrev|data|record|ruleset)\s+)?(?:pub\s+)?([A-Za-z_][\w'\-]*)\s*:\s(.*)$")
 CAPITAL = re.compile(r"^[a-z][a-z0-9_]*[A-Z]")
 KIT = {"cases_Bool"}
+BORROWED = re.compile(r"^use (?:Rattle\.std|native|lib|mathlib|borrow|denote)\b[^{]*\{(.*)\}$", re.M)
 FORMER = {"getD": "get_or"}
 COLUMN = re.compile(r"^--   (\S(?:.*?\S)?)   +(\S.*)$")
 
@@ -34,20 +35,21 @@ def respelled(name):
 
 
 def words(text):
-    """The names of a file, without the paths of modules in its lines of use."""
-    return set(TOKEN.findall(re.sub(r"^use [\w.+'\-]+", "use", text, flags=re.M)))
+    """The names of a file, without the paths of modules in its lines of use and the fields behind a dot."""
+    return set(TOKEN.findall(re.sub(r"\.[A-Za-z_][\w'\-]*", "", re.sub(r"^use [\w.+'\-]+", "use", text, flags=re.M))))
 
 
 def declared(texts):
-    names = set()
+    names, kit = set(), set()
     for f, text in texts.items():
         if not f.endswith(".antt"):
             continue
+        kit.update(t for line in BORROWED.findall(text) for t in TOKEN.findall(line))
         for line in text.split("\n"):
             m = DECLARED.match(line)
             if m and not m.group(2).startswith("goal."):
                 names.add(m.group(1))
-    return names
+    return names - kit
 
 
 def aligned(text):

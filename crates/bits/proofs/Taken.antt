@@ -22,5 +22,5 @@ module _ (bs : List ℕ) (p w : ℕ) (o : Option ℕ) (ends : o ≡ cond (within
   pub taken_none : o ≡ None → Err (short_at p) ≡ taken (bits_of bs) p w
   taken_none n = rw length_bits_of (test_none (within (8 * length bs) p w) (p + w) (Ok (field_at (bits_of bs) p w)) (Err (short_at p)) o ends n)
 
-  pub taken-some : (end : ℕ) → o ≡ Some end → (end ≡ p + w) × (Ok (field_at (bits_of bs) p w) ≡ taken (bits_of bs) p w)
-  taken-some end n = rw length_bits_of (test_some (within (8 * length bs) p w) (p + w) end (Ok (field_at (bits_of bs) p w)) (Err (short_at p)) o ends n)
+  pub taken_some : (end : ℕ) → o ≡ Some end → (end ≡ p + w) × (Ok (field_at (bits_of bs) p w) ≡ taken (bits_of bs) p w)
+  taken_some end n = rw length_bits_of (test_some (within (8 * length bs) p w) (p + w) end (Ok (field_at (bits_of bs) p w)) (Err (short_at p)) o ends n)

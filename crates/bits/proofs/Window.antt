@@ -57,40 +57,40 @@ in_low a b c j h =
     ap (λ (x : ℕ). x / 2 ^ (7 - j) % 2) n ∙ above (a * 2 ^ 8 + b) c j h
 
 module _ (bs : List ℕ) (i : ℕ) (middle : get_or bs (i + 1) 0 < 256) (low : get_or bs (i + 2) 0 < 256) where
-  bit-by : (k o j e : ℕ) → o ≡ 8 * k + j → e ≡ i + k → j < 8 → get_or (bits_of bs) (8 * i + o) 0 ≡ get_or bs e 0 / 2 ^ (7 - j) % 2
-  bit-by k o j e p q h =
+  bit_by : (k o j e : ℕ) → o ≡ 8 * k + j → e ≡ i + k → j < 8 → get_or (bits_of bs) (8 * i + o) 0 ≡ get_or bs e 0 / 2 ^ (7 - j) % 2
+  bit_by k o j e p q h =
       ap (λ (x : ℕ). get_or (bits_of bs) x 0) (omega arith) ∙ bit_at bs (i + k) j h ∙ ap (λ (x : ℕ). get_or bs x 0 / 2 ^ (7 - j) % 2) (sym q)
 
-  window-bit : (o : ℕ) → o < 24 → get_or (bits_of bs) (8 * i + o) 0 ≡ window bs i / 2 ^ (23 - o) % 2
-  window-bit o h = ⊎_elim first (λ l. ⊎_elim (second l) third (cases_lt o 16)) (cases_lt o 8)
+  window_bit : (o : ℕ) → o < 24 → get_or (bits_of bs) (8 * i + o) 0 ≡ window bs i / 2 ^ (23 - o) % 2
+  window_bit o h = ⊎_elim first (λ l. ⊎_elim (second l) third (cases_lt o 16)) (cases_lt o 8)
     where
       first : o < 8 → get_or (bits_of bs) (8 * i + o) 0 ≡ window bs i / 2 ^ (23 - o) % 2
-      first l = bit-by 0 o o i (omega arith) (omega arith) l ∙ sym (in_high (get_or bs i 0) (get_or bs (i + 1) 0) (get_or bs (i + 2) 0) o middle low l)
+      first l = bit_by 0 o o i (omega arith) (omega arith) l ∙ sym (in_high (get_or bs i 0) (get_or bs (i + 1) 0) (get_or bs (i + 2) 0) o middle low l)
 
       second : 8 ≤ o → o < 16 → get_or (bits_of bs) (8 * i + o) 0 ≡ window bs i / 2 ^ (23 - o) % 2
       second l m =
           let s : 15 - (o - 8) ≡ 23 - o = omega arith in
-          bit-by 1 o (o - 8) (i + 1) (omega arith) refl (omega arith)
+          bit_by 1 o (o - 8) (i + 1) (omega arith) refl (omega arith)
           ∙ sym (in_middle (get_or bs i 0) (get_or bs (i + 1) 0) (get_or bs (i + 2) 0) (o - 8) low (omega arith))
           ∙ ap (λ (x : ℕ). window bs i / 2 ^ x % 2) s
 
       third : 16 ≤ o → get_or (bits_of bs) (8 * i + o) 0 ≡ window bs i / 2 ^ (23 - o) % 2
       third l =
           let s : 7 - (o - 16) ≡ 23 - o = omega arith in
-          bit-by 2 o (o - 16) (i + 2) (omega arith) refl (omega arith)
+          bit_by 2 o (o - 16) (i + 2) (omega arith) refl (omega arith)
           ∙ sym (in_low (get_or bs i 0) (get_or bs (i + 1) 0) (get_or bs (i + 2) 0) (o - 16) (omega arith))
           ∙ ap (λ (x : ℕ). window bs i / 2 ^ x % 2) s
 
-  pub window-field : (w o : ℕ) → o + w ≤ 24 → field_at (bits_of bs) (8 * i + o) w ≡ window bs i / 2 ^ (24 - o - w) % 2 ^ w
+  pub window_field : (w o : ℕ) → o + w ≤ 24 → field_at (bits_of bs) (8 * i + o) w ≡ window bs i / 2 ^ (24 - o - w) % 2 ^ w
   unfolding field_at value cut
-  window-field zero o h = sym (mod-one (window bs i / 2 ^ (24 - o - 0)))
-  window-field (suc w) o h =
+  window_field zero o h = sym (mod-one (window bs i / 2 ^ (24 - o - 0)))
+  window_field (suc w) o h =
       let t : ℕ = 24 - o - suc w in
       let rest : field_at (bits_of bs) (8 * i + suc o) w ≡ window bs i / 2 ^ t % 2 ^ w =
-      window-field w (suc o) (omega arith) ∙ ap (λ (x : ℕ). window bs i / 2 ^ x % 2 ^ w) (omega arith)
+      window_field w (suc o) (omega arith) ∙ ap (λ (x : ℕ). window bs i / 2 ^ x % 2 ^ w) (omega arith)
       in
       let bit : get_or (bits_of bs) (8 * i + o) 0 ≡ window bs i / 2 ^ t / 2 ^ w % 2 =
-      window-bit o (omega arith) ∙ ap (λ (x : ℕ). window bs i / 2 ^ x % 2) (omega arith)
+      window_bit o (omega arith) ∙ ap (λ (x : ℕ). window bs i / 2 ^ x % 2) (omega arith)
       ∙ ap (λ (x : ℕ). x % 2) (sym (shr-shr (window bs i) t w))
       in
       let here : suc (8 * i + o) ≡ 8 * i + suc o = omega arith in
@@ -107,7 +107,7 @@ pub window_cut : (bs : List ℕ) (p w h m l : ℕ) → h ≡ get_or bs (p / 8) 0
     → bit_and ((h * 65536 + m * 256 + l) / 2 ^ (24 - p % 8 - w)) ((1 * 2 ^ w) % 2 ^ 32 - 1) ≡ field_at (bits_of bs) p w
 window_cut bs p w h m l eh em el hm hl hw =
     let n : h * 65536 + m * 256 + l ≡ window bs (p / 8) = cc in
-    let f = window-field bs (p / 8) (omega arith) (omega arith) w (p % 8) (omega arith) in
+    let f = window_field bs (p / 8) (omega arith) (omega arith) w (p % 8) (omega arith) in
     let place : 8 * (p / 8) + p % 8 ≡ p = omega arith in
     ap₂ (λ (x y : ℕ). bit_and (x / 2 ^ (24 - p % 8 - w)) (y - 1)) n (one_shl w 32 (omega arith))
     ∙ and_mask (window bs (p / 8) / 2 ^ (24 - p % 8 - w)) w ∙ sym f ∙ ap (λ (x : ℕ). field_at (bits_of bs) x w) place

@@ -11,8 +11,8 @@ shape_valid s h =
     record {
       several = grind (arith, nat_tests);
       few = grind (arith, nat_tests);
-      home-inside = grind (arith, nat_tests);
-      port-inside = grind (arith, nat_tests);
+      home_inside = grind (arith, nat_tests);
+      port_inside = grind (arith, nat_tests);
       apart = λ e. grind (arith, nat_tests);
     }
 
@@ -22,13 +22,13 @@ shape_accepted s v = grind (arith, nat_tests)
 pub route_valid : (s : Shape) (r : Route) → first_no (route_questions s r) ≡ None → ValidRoute s r
 route_valid s r h =
     record {
-      start-inside = grind (arith, nat_tests);
-      end-inside = grind (arith, nat_tests);
+      start_inside = grind (arith, nat_tests);
+      end_inside = grind (arith, nat_tests);
       apart = λ e. grind (arith, nat_tests);
-      ceiling-low = grind (arith, nat_tests, ints);
-      ceiling-high = grind (arith, nat_tests, ints);
-      floor-low = grind (arith, nat_tests, ints);
-      floor-high = grind (arith, nat_tests, ints);
+      ceiling_low = grind (arith, nat_tests, ints);
+      ceiling_high = grind (arith, nat_tests, ints);
+      floor_low = grind (arith, nat_tests, ints);
+      floor_high = grind (arith, nat_tests, ints);
     }
 
 pub route_accepted : (s : Shape) (r : Route) → ValidRoute s r → first_no (route_questions s r) ≡ None

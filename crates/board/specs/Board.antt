@@ -29,19 +29,19 @@ pub record Board : Type 0 where
 pub record ValidShape (s : Shape) : Type 0 where
   pub several : 2 ≤ s.places
   pub few : s.places ≤ 128
-  pub home-inside : s.home < s.places
-  pub port-inside : s.port < s.places
+  pub home_inside : s.home < s.places
+  pub port_inside : s.port < s.places
   pub apart : s.port ≡ s.home → ⊥
 
 -- Both ends are places, and they differ; the ceiling is 0 to 4,095, and the floor is from -4,095 to the ceiling.
 pub record ValidRoute (s : Shape) (r : Route) : Type 0 where
-  pub start-inside : r.start < s.places
-  pub end-inside : r.end < s.places
+  pub start_inside : r.start < s.places
+  pub end_inside : r.end < s.places
   pub apart : r.start ≡ r.end → ⊥
-  pub ceiling-low : pos 0 ≤ℤ r.ceiling
-  pub ceiling-high : r.ceiling ≤ℤ pos 4095
-  pub floor-low : negsuc 4094 ≤ℤ r.floor
-  pub floor-high : r.floor ≤ℤ r.ceiling
+  pub ceiling_low : pos 0 ≤ℤ r.ceiling
+  pub ceiling_high : r.ceiling ≤ℤ pos 4095
+  pub floor_low : negsuc 4094 ≤ℤ r.floor
+  pub floor_high : r.floor ≤ℤ r.ceiling
 
 -- A valid board: its shape is that of a frame, and it has at most 512 routes, each a route of that frame.
 pub record Valid (b : Board) : Type 0 where

@@ -114,12 +114,12 @@ excessive b xs U V R n w u h p v r l =
     record {
       network = n;
       within = w;
-      from-over = u;
-      home-outside = h;
-      port-outside = p;
-      from-ends = v;
+      from_over = u;
+      home_outside = h;
+      port_outside = p;
+      from_ends = v;
       reached = r;
-      excess-is = refl;
+      excess_is = refl;
       some = l;
       right = excess_is_right b xs U V R n w u h p v r l;
     }
@@ -162,7 +162,7 @@ instances =
           (blocks promised stuck (ends promised) everywhere refl refl refl refl)
           (reach promised stuck (origins promised stuck) (region (2 ∷ [])) refl refl refl refl)
           (lt_z_yes tt);
-      excess-at-ends =
+      excess_at_ends =
           excessive drained lacking (region []) first_two first_two (network drained refl) (within drained.routes lacking refl)
           (blocks drained lacking (over drained lacking) (region []) refl refl refl refl) refl refl
           (blocks drained lacking (ends drained) first_two refl refl refl refl)

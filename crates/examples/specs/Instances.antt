@@ -17,12 +17,12 @@ use Rattle.examples.specs.Boards.{region, crossing, carrying, first_two, shifted
 pub record Stuck (b : Board) (xs : List ℤ) (U V R : Region) (x : ℤ) : Type 0 where
   pub network : Network b
   pub within : Within b.routes xs
-  pub from-over : Blocks b xs (over b xs) U
-  pub home-outside : U b.shape.home ≡ false
-  pub port-outside : U b.shape.port ≡ false
-  pub from-ends : Blocks b xs (ends b) V
+  pub from_over : Blocks b xs (over b xs) U
+  pub home_outside : U b.shape.home ≡ false
+  pub port_outside : U b.shape.port ≡ false
+  pub from_ends : Blocks b xs (ends b) V
   pub reached : Reach b xs (origins b xs) R
-  pub excess-is : excess b xs ≡ x
+  pub excess_is : excess b xs ≡ x
   pub some : pos 0 <ℤ excess b xs
   pub right : RightAnswer b (Overpromised (excess b xs) R)
 
@@ -66,7 +66,7 @@ pub record Instances : Type 0 where
       × RightAnswer crossing (Delivered (delivery crossing carrying) first_two)
   -- an excess in the middle, and one at home and port together
   pub excess_is_right : Stuck promised stuck (region (2 ∷ [])) everywhere (region (2 ∷ [])) (pos 1)
-  pub excess-at-ends : Stuck drained lacking (region []) first_two first_two (pos 1)
+  pub excess_at_ends : Stuck drained lacking (region []) first_two first_two (pos 1)
   -- shares that leave nothing over and nothing short are a flow
   pub even_is_flow :
       Within crossing.routes carrying × (surplus crossing carrying ≡ pos 0) × (shortage crossing carrying ≡ pos 0)

@@ -16,10 +16,10 @@ use Rattle.flow.specs.Regions.{Region, leaves, enters, through, ceilings, floors
 pub valid_is_network : ValidIsNetwork
 valid_is_network b v =
     record {
-      home = v.frame.home-inside;
-      port = v.frame.port-inside;
+      home = v.frame.home_inside;
+      port = v.frame.port_inside;
       apart = v.frame.apart;
-      routes = All-weaker _ (Joins b.shape.places) (λ r j. record { start = j.start-inside; end = j.end-inside }) b.routes v.each;
+      routes = All-weaker _ (Joins b.shape.places) (λ r j. record { start = j.start_inside; end = j.end_inside }) b.routes v.each;
     }
 
 -- The shares that start at (or end at) a place, summed over a region, are those whose start (or end) is in it.

@@ -12,8 +12,8 @@ use Rattle.heap.specs.Held.{held, room}
 use Rattle.heap.specs.declared.heap.Heap.{Heap}
 
 module _ {E : Type 0} where
-  take-of-set : (n : ℕ) (ys : List E) (i : ℕ) (x : E) → take n (set ys i x) ≡ set (take n ys) i x
-  take-of-set n ys i x =
+  take_of_set : (n : ℕ) (ys : List E) (i : ℕ) (x : E) → take n (set ys i x) ≡ set (take n ys) i x
+  take_of_set n ys i x =
       ⊎_elim
       (take-set-lt n ys i x)
       (λ l. take-set-le n ys i x l ∙ sym (set_past (take n ys) i x (omega (arith, length-take n ys))))
@@ -21,44 +21,44 @@ module _ {E : Type 0} where
 
   module _ (h : Heap E) where
     -- What is held lies in the slice.
-    pub held-within : (i : ℕ) → i < length (held h) → i < room h
-    held-within i l = omega (arith, length-take h.len h.entries.now)
+    pub held_within : (i : ℕ) → i < length (held h) → i < room h
+    held_within i l = omega (arith, length-take h.len h.entries.now)
 
     -- An entry read from the slice, as one of those held.
-    pub held-read : (i : ℕ) (x : E) → i < length (held h) → x ≡ get_or h.entries.now i x → x ≡ get_or (held h) i x
-    held-read i x l e =
+    pub held_read : (i : ℕ) (x : E) → i < length (held h) → x ≡ get_or h.entries.now i x → x ≡ get_or (held h) i x
+    held_read i x l e =
         let n = length-take h.len h.entries.now in
         e ∙ sym (get_or-take h.len h.entries.now i x (omega arith))
 
     -- How two entries read from the slice compare, said of those held.
-    pub held-compared : (before : E → E → Bool) (b : Bool) (i j : ℕ) (x y : E)
+    pub held_compared : (before : E → E → Bool) (b : Bool) (i j : ℕ) (x y : E)
         → i < length (held h)
         → j < length (held h)
         → x ≡ get_or h.entries.now i x
         → y ≡ get_or h.entries.now j y
         → before x y ≡ b
         → (d : E) → before (get_or (held h) i d) (get_or (held h) j d) ≡ b
-    held-compared before b i j x y p q e f =
-        pair_read (held h) (λ u v. before u v ≡ b) i j x y p q (held-read i x p e) (held-read j y q f)
+    held_compared before b i j x y p q e f =
+        pair_read (held h) (λ u v. before u v ≡ b) i j x y p q (held_read i x p e) (held_read j y q f)
 
     -- Two held entries exchanged in the slice are exchanged in what is held.
-    pub held-exchanged : (zs : List E) (i j : ℕ) (d : E) → i < length (held h) → j < length (held h)
+    pub held_exchanged : (zs : List E) (i j : ℕ) (d : E) → i < length (held h) → j < length (held h)
         → zs ≡ set (set h.entries.now i (get_or h.entries.now j d)) j (get_or h.entries.now i d)
         → take h.len zs ≡ swap (held h) i j
-    held-exchanged zs i j d p q is =
+    held_exchanged zs i j d p q is =
         let n = h.len in
         let ys = h.entries.now in
         let long = length-take n ys in
-        let outer = take-of-set n (set ys i (get_or ys j d)) j (get_or ys i d) in
-        let inner = take-of-set n ys i (get_or ys j d) in
+        let outer = take_of_set n (set ys i (get_or ys j d)) j (get_or ys i d) in
+        let inner = take_of_set n ys i (get_or ys j d) in
         let one = get_or-take n ys i d (omega arith) in
         let other = get_or-take n ys j d (omega arith) in
         let e = swap_is (held h) i j d p q in
         cc
 
     -- As many of the slice as are held are what is held.
-    take-held : take (length (held h)) h.entries.now ≡ held h
-    take-held =
+    take_held : take (length (held h)) h.entries.now ≡ held h
+    take_held =
         let n = h.len in
         let ys = h.entries.now in
         let long = length-take n ys in
@@ -68,31 +68,31 @@ module _ {E : Type 0} where
         (cases_lt n (length ys))
 
     -- An entry written behind those held.
-    pub held-pushed : (m : ℕ) (x : E) → m ≡ length (held h) → m < room h
+    pub held_pushed : (m : ℕ) (x : E) → m ≡ length (held h) → m < room h
         → take (m + 1) (set h.entries.now m x) ≡ held h ++ x ∷ []
-    held-pushed m x e l =
+    held_pushed m x e l =
         take_more_set h.entries.now m x l
-        ∙ ap (λ (xs : List E). xs ++ x ∷ []) (ap (λ (k : ℕ). take k h.entries.now) e ∙ take-held)
+        ∙ ap (λ (xs : List E). xs ++ x ∷ []) (ap (λ (k : ℕ). take k h.entries.now) e ∙ take_held)
 
     -- One less is held, and the first is written over.
-    pub held-popped : (m : ℕ) (x : E) → m ≡ length (held h)
+    pub held_popped : (m : ℕ) (x : E) → m ≡ length (held h)
         → take (m - 1) (set h.entries.now 0 x) ≡ take (m - 1) (set (held h) 0 x)
-    held-popped m x e =
+    held_popped m x e =
         let n = h.len in
         let ys = h.entries.now in
         let long = length-take n ys in
-        take-of-set (m - 1) ys 0 x
+        take_of_set (m - 1) ys 0 x
         ∙ ap (λ (xs : List E). set xs 0 x) (sym (take-take (m - 1) n ys (omega arith)))
-        ∙ sym (take-of-set (m - 1) (held h) 0 x)
+        ∙ sym (take_of_set (m - 1) (held h) 0 x)
 
   -- A list with one more behind it.
-  pub shuffled-push : (xs ys : List E) (x : E) → ys ≡ xs ++ x ∷ [] → IsPermutation (x ∷ xs) ys
-  shuffled-push xs ys x is = rw is (IsPermutation-sym (xs ++ x ∷ []) (x ∷ xs) (IsPermutation-to_front xs x))
+  pub shuffled_push : (xs ys : List E) (x : E) → ys ≡ xs ++ x ∷ [] → IsPermutation (x ∷ xs) ys
+  shuffled_push xs ys x is = rw is (IsPermutation-sym (xs ++ x ∷ []) (x ∷ xs) (IsPermutation-to_front xs x))
 
   -- The last of a list in front of the others.
-  last-in-front : (xs : List E) (x d : E) → x ≡ get_or (d ∷ xs) (length xs) x → IsPermutation xs (take (length xs) (x ∷ xs))
-  last-in-front [] x d e = IsPermutation-refl []
-  last-in-front (y ∷ xs) x d e =
+  last_in_front : (xs : List E) (x d : E) → x ≡ get_or (d ∷ xs) (length xs) x → IsPermutation xs (take (length xs) (x ∷ xs))
+  last_in_front [] x d e = IsPermutation-refl []
+  last_in_front (y ∷ xs) x d e =
       let ys = take (length xs) (y ∷ xs) in
       let m = take_more (y ∷ xs) (length xs) x (omega arith) in
       let a = take_all (length xs + 1) (y ∷ xs) (omega arith) in
@@ -100,9 +100,9 @@ module _ {E : Type 0} where
       subst (λ (zs : List E). IsPermutation zs (x ∷ ys)) s (IsPermutation-to_front ys x)
 
   -- The first leaves, and the last takes its place.
-  pub shuffled-pop : (xs : List E) (m : ℕ) (x y : E) → m ≡ length xs → 0 < m → x ≡ get_or xs 0 x → y ≡ get_or xs (m - 1) y
+  pub shuffled_pop : (xs : List E) (m : ℕ) (x y : E) → m ≡ length xs → 0 < m → x ≡ get_or xs 0 x → y ≡ get_or xs (m - 1) y
       → IsPermutation xs (x ∷ take (m - 1) (set xs 0 y))
-  shuffled-pop [] m x y n l e f = absurd (omega arith)
-  shuffled-pop (z ∷ xs) m x y n l e f =
+  shuffled_pop [] m x y n l e f = absurd (omega arith)
+  shuffled_pop (z ∷ xs) m x y n l e f =
       let p : m - 1 ≡ length xs = omega arith in
-      rw (p, e) (IsPermutation-cons z xs (take (length xs) (y ∷ xs)) (last-in-front xs y z (rw p at f)))
+      rw (p, e) (IsPermutation-cons z xs (take (length xs) (y ∷ xs)) (last_in_front xs y z (rw p at f)))

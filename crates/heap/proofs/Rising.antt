@@ -6,14 +6,14 @@ use Rattle.std.proofs.lemmas.List.{get_or_append_left, length_push}
 use Rattle.std.proofs.lemmas.Bool.{cases_eq}
 use Rattle.heap.specs.Order.{parent, Ordered}
 use Rattle.heap.specs.Sifting.{Loose, Leads, MayRise}
-use Rattle.heap.proofs.Orders.{ordered-from-loose, other_way}
+use Rattle.heap.proofs.Orders.{ordered_from_loose, other_way}
 
 module _ {E : Type 0} (before : E → E → Bool) where
   -- An entry behind a list in order.
-  pub last-may-rise : (xs ys : List E) (x : E) (j : ℕ) → j ≡ length xs → ys ≡ xs ++ x ∷ []
+  pub last_may_rise : (xs ys : List E) (x : E) (j : ℕ) → j ≡ length xs → ys ≡ xs ++ x ∷ []
       → Ordered before xs
       → MayRise before ys j
-  last-may-rise xs ys x j e is o =
+  last_may_rise xs ys x j e is o =
       let n = ap length is ∙ length_push xs x in (
         record {
           apart =
@@ -29,15 +29,15 @@ module _ {E : Type 0} (before : E → E → Bool) where
       )
 
   -- The first entry comes earlier than no parent, having none.
-  pub top-in-order : (xs : List E) (j : ℕ) → j ≡ 0 → MayRise before xs j → Ordered before xs
-  top-in-order xs j z r = ordered-from-loose before xs j r.0 r.1 (λ d a. absurd (omega arith))
+  pub top_in_order : (xs : List E) (j : ℕ) → j ≡ 0 → MayRise before xs j → Ordered before xs
+  top_in_order xs j z r = ordered_from_loose before xs j r.0 r.1 (λ d a. absurd (omega arith))
 
   -- Nor does an entry whose parent comes no later than it.
-  pub rested-in-order : (xs : List E) (j : ℕ)
+  pub rested_in_order : (xs : List E) (j : ℕ)
       → ((d : E) → before (get_or xs (parent j) d) (get_or xs j d) ≡ true)
       → MayRise before xs j
       → Ordered before xs
-  rested-in-order xs j h r = ordered-from-loose before xs j r.0 r.1 (λ d a. h d)
+  rested_in_order xs j h r = ordered_from_loose before xs j r.0 r.1 (λ d a. h d)
 
   module _
       (total : (x y : E) → (before x y || before y x) ≡ true)
@@ -105,5 +105,5 @@ module _ {E : Type 0} (before : E → E → Bool) where
         (cases_eq k j)
 
     -- An entry that comes earlier than its parent takes its place.
-    pub parent-may-rise : MayRise before zs (parent j)
-    parent-may-rise = (loose, leads)
+    pub parent_may_rise : MayRise before zs (parent j)
+    parent_may_rise = (loose, leads)

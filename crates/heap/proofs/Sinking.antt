@@ -6,14 +6,14 @@ use Rattle.std.proofs.lemmas.List.{get_or-take, get_or-set_other, length-take}
 use Rattle.std.proofs.lemmas.Bool.{cases_eq}
 use Rattle.heap.specs.Order.{parent, Ordered}
 use Rattle.heap.specs.Sifting.{Loose, Trails, MaySink, EarlierChild}
-use Rattle.heap.proofs.Orders.{ordered-from-loose, other_way}
+use Rattle.heap.proofs.Orders.{ordered_from_loose, other_way}
 
 module _ {E : Type 0} (before : E → E → Bool) where
   -- A list in order, one shorter, with any entry in the place of the first.
-  pub first-may-sink : (xs ys : List E) (m : ℕ) (x : E) → m ≡ length xs → ys ≡ take (m - 1) (set xs 0 x)
+  pub first_may_sink : (xs ys : List E) (m : ℕ) (x : E) → m ≡ length xs → ys ≡ take (m - 1) (set xs 0 x)
       → Ordered before xs
       → MaySink before ys 0
-  first-may-sink xs ys m x e is o =
+  first_may_sink xs ys m x e is o =
       let n = ap length is ∙ length-take (m - 1) (set xs 0 x) in
       let same : (k : ℕ) (d : E) → 0 < k → k < m - 1 → get_or (take (m - 1) (set xs 0 x)) k d ≡ get_or xs k d =
       λ k d a l. get_or-take (m - 1) (set xs 0 x) k d l ∙ get_or-set_other xs 0 k x d (omega arith)
@@ -31,17 +31,17 @@ module _ {E : Type 0} (before : E → E → Bool) where
       )
 
   -- An entry with no child comes later than none.
-  pub childless-in-order : (xs : List E) (j : ℕ) → EarlierChild before xs j None → MaySink before xs j → Ordered before xs
-  childless-in-order xs j none s = ordered-from-loose before xs j s.0 (λ k d a l e. absurd (none k a l e)) s.1
+  pub childless_in_order : (xs : List E) (j : ℕ) → EarlierChild before xs j None → MaySink before xs j → Ordered before xs
+  childless_in_order xs j none s = ordered_from_loose before xs j s.0 (λ k d a l e. absurd (none k a l e)) s.1
 
   module _ (transitive : (x y z : E) → before x y ≡ true → before y z ≡ true → before x z ≡ true) where
     -- Nor does an entry that comes no later than the earlier of its children.
-    pub rested-in-order : (xs : List E) (j c : ℕ) → EarlierChild before xs j (Some c)
+    pub rested_in_order : (xs : List E) (j c : ℕ) → EarlierChild before xs j (Some c)
         → ((d : E) → before (get_or xs j d) (get_or xs c d) ≡ true)
         → MaySink before xs j
         → Ordered before xs
-    rested-in-order xs j c child h s =
-        ordered-from-loose before xs j s.0 (λ k d a l e. transitive _ _ _ (h d) (child.3 k d a l e)) s.1
+    rested_in_order xs j c child h s =
+        ordered_from_loose before xs j s.0 (λ k d a l e. transitive _ _ _ (h d) (child.3 k d a l e)) s.1
 
   module _
       (total : (x y : E) → (before x y || before y x) ≡ true)
@@ -112,5 +112,5 @@ module _ {E : Type 0} (before : E → E → Bool) where
         cc
 
     -- An entry that comes later than the earlier of its children takes that one's place.
-    pub child-may-sink : MaySink before zs c
-    child-may-sink = (loose, trails)
+    pub child_may_sink : MaySink before zs c
+    child_may_sink = (loose, trails)

@@ -31,13 +31,13 @@ last_held bits p a b c d e =
 
 module _ (entries : ℕ) (bits : List ℕ) where
   -- the header's questions in their parts
-  pub header-parts : first_no (header_questions entries bits) ≡ None
+  pub header_parts : first_no (header_questions entries bits) ≡ None
       → (first_no (field_questions bits 0 header_fields) ≡ None)
       × (first_no (frame_questions (stated bits).shape) ≡ None)
       × (stating bits 0 Routes ≤ 512)
       × (stating bits 0 Routes ≤ entries)
   unfolding header_questions
-  header-parts e =
+  header_parts e =
       let n = stating bits 0 Routes in
       let fields = field_questions bits 0 header_fields in
       let frames = frame_questions (stated bits).shape in
@@ -47,8 +47,8 @@ module _ (entries : ℕ) (bits : List ℕ) where
       let m = yes_first (leb n entries) None EntryLimit l.1 in
       (none_handed Bits fields inner.0, none_handed Frame frames inner.1, leb-true n 512 l.0, leb-true n entries m.0)
 
-  pub header-held : first_no (header_questions entries bits) ≡ None → 32 ≤ length bits
-  header-held e = last_held bits 0 Places Home Port Routes (header-parts e).0
+  pub header_held : first_no (header_questions entries bits) ≡ None → 32 ≤ length bits
+  header_held e = last_held bits 0 Places Home Port Routes (header_parts e).0
 
 -- a record's questions in two parts
 pub record_parts : (bits : List ℕ) (s : Shape) (k : ℕ) → first_no (record_questions bits s k) ≡ None

@@ -78,16 +78,16 @@ record_back : (bits : List ℕ) (s : Shape) (k : ℕ) (r : Route) (rest : List �
     → (route_at bits (record_start k) ≡ r) × (first_no (record_questions bits s k) ≡ None) × (drop (record_start (suc k)) bits ≡ rest)
 unfolding record_bits route_at record_questions
 record_back bits s k r rest few v e =
-    let c = natural r.ceiling v.ceiling-low v.ceiling-high in
-    let top : r.floor ≤ℤ pos 4095 = omega (arith, ints, v.floor-high, v.ceiling-high) in
-    let n = narrowed_lt r.floor v.floor-low top in
+    let c = natural r.ceiling v.ceiling_low v.ceiling_high in
+    let top : r.floor ≤ℤ pos 4095 = omega (arith, ints, v.floor_high, v.ceiling_high) in
+    let n = narrowed_lt r.floor v.floor_low top in
     let f =
     four-stand bits (record_start k) Start End Floor Ceiling r.start r.end (narrowed r.floor) (nat_abs r.ceiling) rest refl refl refl refl
     (omega arith) (omega arith) (omega arith) (omega arith) (e ∙ simp append_assoc)
     in
-    let f₀ = f.0 ∙ mod-eq_of_lt {m = 2 ^ 7} (omega (arith, v.start-inside)) in
-    let f₁ = f.1 ∙ mod-eq_of_lt {m = 2 ^ 7} (omega (arith, v.end-inside)) in
-    let f₂ = ap widened (f.2 ∙ mod-eq_of_lt {m = 2 ^ 13} n) ∙ widened_narrowed r.floor v.floor-low top in
+    let f₀ = f.0 ∙ mod-eq_of_lt {m = 2 ^ 7} (omega (arith, v.start_inside)) in
+    let f₁ = f.1 ∙ mod-eq_of_lt {m = 2 ^ 7} (omega (arith, v.end_inside)) in
+    let f₂ = ap widened (f.2 ∙ mod-eq_of_lt {m = 2 ^ 13} n) ∙ widened_narrowed r.floor v.floor_low top in
     let f₃ = ap pos (f.3 ∙ mod-eq_of_lt {m = 2 ^ 12} c.0) ∙ c.1 in
     let route : route_at bits (record_start k) ≡ r = same_route r _ _ _ _ f₀ f₁ f₂ f₃ in (
       route,
@@ -123,8 +123,8 @@ header_back bits entries b rest v room e =
     (omega arith) (omega arith) (omega arith) (omega arith) (e ∙ simp append_assoc)
     in
     let f₀ = f.0 ∙ mod-eq_of_lt {m = 2 ^ 8} (omega (arith, w.few)) in
-    let f₁ = f.1 ∙ mod-eq_of_lt {m = 2 ^ 7} (omega (arith, w.few, w.home-inside)) in
-    let f₂ = f.2 ∙ mod-eq_of_lt {m = 2 ^ 7} (omega (arith, w.few, w.port-inside)) in
+    let f₁ = f.1 ∙ mod-eq_of_lt {m = 2 ^ 7} (omega (arith, w.few, w.home_inside)) in
+    let f₂ = f.2 ∙ mod-eq_of_lt {m = 2 ^ 7} (omega (arith, w.few, w.port_inside)) in
     let f₃ = f.3 ∙ mod-eq_of_lt {m = 2 ^ 10} (omega (arith, v.few)) in
     let shape : (stated bits).shape ≡ b.shape = same_shape b.shape _ _ _ f₀ f₁ f₂ in
     let n = stating bits 0 Routes in

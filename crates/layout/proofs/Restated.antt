@@ -10,7 +10,7 @@ use Rattle.board.specs.Questions.{first_no}
 use Rattle.bits.proofs.Bits.{Binary, field_at_lt}
 use Rattle.bits.proofs.Cuts.{field_bits}
 use Rattle.layout.proofs.Format.{length_sheet_bits}
-use Rattle.layout.proofs.Held.{yes_first, field_held, header-parts, header-held, record_parts, records_parts, records_held}
+use Rattle.layout.proofs.Held.{yes_first, field_held, header_parts, header_held, record_parts, records_parts, records_held}
 use Rattle.layout.proofs.Stated.{length_routes_from}
 use Rattle.bits.proofs.TwosComplement.{narrowed_widened}
 use Rattle.bits.specs.Bits.{digits, zeros, fill}
@@ -25,12 +25,12 @@ use Rattle.bits.specs.declared.field.Field.TheVariants.{Places, Home, Port, Rout
 
 module _ (bits : List ℕ) (binary : Binary bits) where
   -- four fields, each beginning where the one before ends
-  four-bits : (p : ℕ) (a b c d : Field) → offset a ≡ 0 → offset b ≡ width a → offset c ≡ offset b + width b → offset d ≡ offset c + width c
+  four_bits : (p : ℕ) (a b c d : Field) → offset a ≡ 0 → offset b ≡ width a → offset c ≡ offset b + width b → offset d ≡ offset c + width c
       → first_no (field_questions bits p (a ∷ b ∷ c ∷ d ∷ [])) ≡ None
       → drop p bits
       ≡ digits (width a) (stating bits p a)
       ++ (digits (width b) (stating bits p b) ++ (digits (width c) (stating bits p c) ++ (digits (width d) (stating bits p d) ++ drop (p + offset d + width d) bits)))
-  four-bits p a b c d oa ob oc od e =
+  four_bits p a b c d oa ob oc od e =
       let ha = field_held bits p a (b ∷ c ∷ d ∷ []) e in
       let hb = field_held bits p b (c ∷ d ∷ []) ha.1 in
       let hc = field_held bits p c (d ∷ []) hb.1 in
@@ -46,12 +46,12 @@ module _ (bits : List ℕ) (binary : Binary bits) where
       ∙ ap (λ (x : List ℕ). digits (width c) (stating bits p c) ++ x) (at d (p + offset c + width c) (omega arith) hd.0)))
 
   -- one record
-  record-again : (s : Shape) (k : ℕ) → first_no (record_questions bits s k) ≡ None
+  record_again : (s : Shape) (k : ℕ) → first_no (record_questions bits s k) ≡ None
       → (drop (record_start k) bits ≡ record_bits (route_at bits (record_start k)) ++ drop (record_start (suc k)) bits) × ValidRoute s (route_at bits (record_start k))
   unfolding record_bits route_at
-  record-again s k e =
+  record_again s k e =
       let parts = record_parts bits s k e in
-      let f = four-bits (record_start k) Start End Floor Ceiling refl refl refl refl parts.0 in
+      let f = four_bits (record_start k) Start End Floor Ceiling refl refl refl refl parts.0 in
       let floor = narrowed_widened (stating bits (record_start k) Floor) (field_at_lt bits (record_start k + 14) 13 binary) in
       let next : record_start k + 27 + 12 ≡ record_start (suc k) = omega arith in
       let back : digits 13 (stating bits (record_start k) Floor) ≡ digits 13 (narrowed (widened (stating bits (record_start k) Floor))) = ap (digits 13) (sym floor) in (
@@ -64,14 +64,14 @@ module _ (bits : List ℕ) (binary : Binary bits) where
             parts.1,
       )
 
-  records-again : (s : Shape) (k n : ℕ) → first_no (records_questions bits s k n) ≡ None
+  records_again : (s : Shape) (k n : ℕ) → first_no (records_questions bits s k n) ≡ None
       → (drop (record_start k) bits ≡ flat_map record_bits (routes_from bits k n) ++ drop (record_start (k + n)) bits) × All (ValidRoute s) (routes_from bits k n)
   unfolding routes_from
-  records-again s k zero e = (ap (λ (x : ℕ). drop (record_start x) bits) (sym (add-zero k)), tt)
-  records-again s k (suc n) e =
+  records_again s k zero e = (ap (λ (x : ℕ). drop (record_start x) bits) (sym (add-zero k)), tt)
+  records_again s k (suc n) e =
       let parts = records_parts bits s k n e in
-      let one = record-again s k parts.0 in
-      let more = records-again s (suc k) n parts.1 in (
+      let one = record_again s k parts.0 in
+      let more = records_again s (suc k) n parts.1 in (
         one.0
             ∙ ap (λ (x : List ℕ). record_bits (route_at bits (record_start k)) ++ x) (more.0 ∙ ap (λ (x : ℕ). flat_map record_bits (routes_from bits (suc k) n) ++ drop (record_start x) bits) (omega arith))
             ∙ sym (append_assoc (record_bits (route_at bits (record_start k))) (flat_map record_bits (routes_from bits (suc k) n)) (drop (record_start (k + suc n)) bits)),
@@ -79,12 +79,12 @@ module _ (bits : List ℕ) (binary : Binary bits) where
       )
 
   -- the header
-  header-again : (entries : ℕ) → first_no (header_questions entries bits) ≡ None
+  header_again : (entries : ℕ) → first_no (header_questions entries bits) ≡ None
       → (bits ≡ header_bits (stated bits) ++ drop 32 bits) × ValidShape (stated bits).shape × (stating bits 0 Routes ≤ 512) × (stating bits 0 Routes ≤ entries)
   unfolding header_bits stated
-  header-again entries e =
-      let parts = header-parts entries bits e in
-      let f = four-bits 0 Places Home Port Routes refl refl refl refl parts.0 in
+  header_again entries e =
+      let parts = header_parts entries bits e in
+      let f = four_bits 0 Places Home Port Routes refl refl refl refl parts.0 in
       let n : stating bits 0 Routes ≡ length (routes_from bits 0 (stating bits 0 Routes)) = sym (length_routes_from bits 0 (stating bits 0 Routes)) in (
         f
             ∙ ap
@@ -129,11 +129,11 @@ sheet_again bits entries m binary whole e =
     let shape = (stated bits).shape in
     let outer = first_parts (header_questions entries bits ++ records_questions bits shape 0 n) (end_questions bits n) e in
     let inner = first_parts (header_questions entries bits) (records_questions bits shape 0 n) outer.0 in
-    let header = header-again bits binary entries inner.0 in
-    let records = records-again bits binary shape 0 n inner.1 in
+    let header = header_again bits binary entries inner.0 in
+    let records = records_again bits binary shape 0 n inner.1 in
     let end = end_again bits n outer.1 in
     let routes = length_routes_from bits 0 n in
-    let inside = records_held bits shape 0 n (header-held entries bits inner.0) inner.1 in
+    let inside = records_held bits shape 0 n (header_held entries bits inner.0) inner.1 in
     let long : length (sheet_bits (stated bits)) ≡ record_start n = length_sheet_bits (stated bits) ∙ ap record_start routes in
     let pad : length bits - record_start n ≡ fill (length (sheet_bits (stated bits))) =
     ap (λ (x : ℕ). x - record_start n) whole ∙ fills (record_start n) m (omega arith) (omega (arith, end.0)) ∙ ap fill (sym long)

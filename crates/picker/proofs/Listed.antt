@@ -51,8 +51,8 @@ empty_inside xs e v o = ap (λ l. occurs l v) e
 
 module _ (xs : List ℕ) (room count p : ℕ) where
   -- refused: the place is 128 or above
-  pub put-unknown : 128 ≤ p → (Err PlaceUnknown ≡ put_answer (meaning_of xs room count) p) × (meaning_of xs room count ≡ put_to (meaning_of xs room count) p)
-  put-unknown h = let e = le-ltb p 128 h in (rw e refl, rw e refl)
+  pub put_unknown : 128 ≤ p → (Err PlaceUnknown ≡ put_answer (meaning_of xs room count) p) × (meaning_of xs room count ≡ put_to (meaning_of xs room count) p)
+  put_unknown h = let e = le-ltb p 128 h in (rw e refl, rw e refl)
 
   -- refused: as many wait as there is room for
   pub put_full : Inside (occurs xs) → p < 128 → room ≤ length xs → (Err RoomFull ≡ put_answer (meaning_of xs room count) p) × (meaning_of xs room count ≡ put_to (meaning_of xs room count) p)
@@ -63,9 +63,9 @@ module _ (xs : List ℕ) (room count p : ℕ) where
       (rw (a, b) refl, rw (a, b) refl)
 
   -- accepted: the place joins the list, wherever
-  pub put-accepted : (ys : List ℕ) → Inside (occurs xs) → p < 128 → length xs < room → IsPermutation (p ∷ xs) ys
+  pub put_accepted : (ys : List ℕ) → Inside (occurs xs) → p < 128 → length xs < room → IsPermutation (p ∷ xs) ys
       → (Ok tt ≡ put_answer (meaning_of xs room count) p) × (meaning_of ys room count ≡ put_to (meaning_of xs room count) p)
-  put-accepted ys all h free s =
+  put_accepted ys all h free s =
       let a = lt-ltb p 128 h in
       let n = waiting_occurs xs all in
       let b = lt-ltb (waiting_below 128 (occurs xs)) room (omega arith) in
@@ -73,9 +73,9 @@ module _ (xs : List ℕ) (room count p : ℕ) where
       (rw (a, b) refl, rw (a, b) (ap (λ u. record { waits = u; room = room; count = count }) w))
 
   -- taken: the place leaves the list, wherever it was
-  pub took-some : (ys : List ℕ) (next : ℕ) → IsPermutation xs (p ∷ ys) → next ≡ counted count
+  pub took_some : (ys : List ℕ) (next : ℕ) → IsPermutation xs (p ∷ ys) → next ≡ counted count
       → Took (meaning_of xs room count) (Some p) (meaning_of ys room next)
-  took-some ys next s n =
+  took_some ys next s n =
       let w : occurs xs ≡ more p (occurs ys) = sym (occurs_shuffled xs (p ∷ ys) s) ∙ occurs_cons p ys in
       let here = ap (λ u. u p) w in
       let one = once_here p in

@@ -8,23 +8,23 @@ use Rattle.heap.specs.Order.{Ordered, First, Pushed, Popped}
 
 module _ {E : Type 0} (before : E → E → Bool) where
   -- no entries are in order
-  pub nothing-ordered : (xs : List E) → xs ≡ [] → Ordered before xs
-  nothing-ordered xs e k d z h = let none = ap length e in absurd (omega arith)
+  pub nothing_ordered : (xs : List E) → xs ≡ [] → Ordered before xs
+  nothing_ordered xs e k d z h = let none = ap length e in absurd (omega arith)
 
   -- order stays
-  pub pushed-ordered : (xs ys : List E) (x : E) (r : Result (Unit {0}) E) → Pushed before xs x r ys
+  pub pushed_ordered : (xs ys : List E) (x : E) (r : Result (Unit {0}) E) → Pushed before xs x r ys
       → ∥ Ordered before xs ∥₁ → ∥ Ordered before ys ∥₁
-  pushed-ordered xs ys x (Ok done) t o = ∥∥₁_map o t.1
-  pushed-ordered xs ys x (Err y) t o = subst (λ l. ∥ Ordered before l ∥₁) (sym t.1) o
+  pushed_ordered xs ys x (Ok done) t o = ∥∥₁_map o t.1
+  pushed_ordered xs ys x (Err y) t o = subst (λ l. ∥ Ordered before l ∥₁) (sym t.1) o
 
-  pub popped-ordered : (xs ys : List E) (r : Option E) → Popped before xs r ys
+  pub popped_ordered : (xs ys : List E) (r : Option E) → Popped before xs r ys
       → ∥ Ordered before xs ∥₁ → ∥ Ordered before ys ∥₁
-  popped-ordered xs ys None t o = ∣ nothing-ordered ys t.1 ∣₁
-  popped-ordered xs ys (Some x) t o = ∥∥₁_map o (λ p. (t.1 p).1)
+  popped_ordered xs ys None t o = ∣ nothing_ordered ys t.1 ∣₁
+  popped_ordered xs ys (Some x) t o = ∥∥₁_map o (λ p. (t.1 p).1)
 
   -- what is first where the entries are in order is first
-  pub popped-first : (d x : E) (xs ys : List E) → Popped before xs (Some x) ys → ∥ Ordered before xs ∥₁ → First before x xs
-  popped-first d x xs ys t o =
+  pub popped_first : (d x : E) (xs ys : List E) → Popped before xs (Some x) ys → ∥ Ordered before xs ∥₁ → First before x xs
+  popped_first d x xs ys t o =
       All-from_get_or (λ y. before x y ≡ true) xs d
       (λ k h. ∥∥₁_elim o (Bool-set _ _) (λ p. All-get_or (λ y. before x y ≡ true) xs k d h (t.1 p).0))
 
@@ -36,16 +36,16 @@ module _ {E : Type 0} (before : E → E → Bool) where
     pub each_none : (xs : List E) → xs ≡ [] → Each xs
     each_none xs e k h = let none = ap length e in absurd (omega arith)
 
-    pub pushed-each : (xs ys : List E) (x : E) (r : Result (Unit {0}) E) → Pushed before xs x r ys → P x → Each xs → Each ys
-    pushed-each xs ys x (Ok done) t px each =
+    pub pushed_each : (xs ys : List E) (x : E) (r : Result (Unit {0}) E) → Pushed before xs x r ys → P x → Each xs → Each ys
+    pushed_each xs ys x (Ok done) t px each =
         let all = all_shuffled P (x ∷ xs) ys t.0 (px, All-from_get_or P xs d each) in λ k h. All-get_or P ys k d h all
-    pushed-each xs ys x (Err y) t px each = subst Each (sym t.1) each
+    pushed_each xs ys x (Err y) t px each = subst Each (sym t.1) each
 
     -- of the one that left, and of the others
-    pub left-each : (xs ys : List E) (x : E) → IsPermutation xs (x ∷ ys) → Each xs → P x × Each ys
-    left-each xs ys x s each =
+    pub left_each : (xs ys : List E) (x : E) → IsPermutation xs (x ∷ ys) → Each xs → P x × Each ys
+    left_each xs ys x s each =
         let all = all_shuffled P xs (x ∷ ys) s (All-from_get_or P xs d each) in (all.0, λ k h. All-get_or P ys k d h all.1)
 
-    pub popped-each : (xs ys : List E) (r : Option E) → Popped before xs r ys → Each xs → Each ys
-    popped-each xs ys None t each = each_none ys t.1
-    popped-each xs ys (Some x) t each = (left-each xs ys x t.0 each).1
+    pub popped_each : (xs ys : List E) (r : Option E) → Popped before xs r ys → Each xs → Each ys
+    popped_each xs ys None t each = each_none ys t.1
+    popped_each xs ys (Some x) t each = (left_each xs ys x t.0 each).1

@@ -40,9 +40,9 @@ module _ (b : List ℕ) (p : ℕ) (small : p < 2 ^ 32) where
   reach : (f : Field) → ltb (p + offset f + width f) (2 ^ 64) ≡ true
   reach f = lt-ltb (p + offset f + width f) (2 ^ 64) (omega (arith, width_le f, offset_le f))
 
-  yes-step : (f : Field) (fs : List Field) (q n : ℕ) (b₁ b₂ : List ℕ) (q₂ : ℕ) → b₁ ≡ b → q ≡ p + offset f → Took b₁ q (width f) n b₂ q₂
+  yes_step : (f : Field) (fs : List Field) (q n : ℕ) (b₁ b₂ : List ℕ) (q₂ : ℕ) → b₁ ≡ b → q ≡ p + offset f → Took b₁ q (width f) n b₂ q₂
       → (asked (f ∷ fs) ≡ asked fs) × (n ≡ stating (bits_of b) p f) × (b₂ ≡ b) × (q₂ ≡ p + offset f + width f)
-  yes-step f fs q n b₁ b₂ q₂ eb eq t =
+  yes_step f fs q n b₁ b₂ q₂ eb eq t =
       let a : Ok n ≡ taken (bits_of b) (p + offset f) (width f) = t.answer ∙ ap (λ (x : List ℕ). taken (bits_of x) q (width f)) eb ∙ ap (λ (x : ℕ). taken (bits_of b) x (width f)) eq in
       let h =
       by_held (held (bits_of b) (p + offset f) (width f)) (ltb (p + offset f + width f) (2 ^ 64)) n (field_at (bits_of b) (p + offset f) (width f))
@@ -65,35 +65,35 @@ module _ (b : List ℕ) (p : ℕ) (small : p < 2 ^ 32) where
     abbrev pub four : Option BitFault
     four = asked (f₀ ∷ f₁ ∷ f₂ ∷ f₃ ∷ [])
 
-    pub first-missing : (e : BitFault) → Err e ≡ taken (bits_of b) p (width f₀) → four ≡ Some e
-    first-missing e t = no_step f₀ (f₁ ∷ f₂ ∷ f₃ ∷ []) p e b refl (omega arith) t
+    pub first_missing : (e : BitFault) → Err e ≡ taken (bits_of b) p (width f₀) → four ≡ Some e
+    first_missing e t = no_step f₀ (f₁ ∷ f₂ ∷ f₃ ∷ []) p e b refl (omega arith) t
 
     module _ (n₀ : ℕ) (b₁ : List ℕ) (q₁ : ℕ) (t₀ : Took b p (width f₀) n₀ b₁ q₁) where
       s₀ : (four ≡ asked (f₁ ∷ f₂ ∷ f₃ ∷ [])) × (n₀ ≡ stating (bits_of b) p f₀) × (b₁ ≡ b) × (q₁ ≡ p + offset f₀ + width f₀)
-      s₀ = yes-step f₀ (f₁ ∷ f₂ ∷ f₃ ∷ []) p n₀ b b₁ q₁ refl (omega arith) t₀
+      s₀ = yes_step f₀ (f₁ ∷ f₂ ∷ f₃ ∷ []) p n₀ b b₁ q₁ refl (omega arith) t₀
 
-      pub second-missing : (e : BitFault) → Err e ≡ taken (bits_of b₁) q₁ (width f₁) → four ≡ Some e
-      second-missing e t = s₀.0 ∙ no_step f₁ (f₂ ∷ f₃ ∷ []) q₁ e b₁ s₀.2 (omega (arith, s₀.3)) t
+      pub second_missing : (e : BitFault) → Err e ≡ taken (bits_of b₁) q₁ (width f₁) → four ≡ Some e
+      second_missing e t = s₀.0 ∙ no_step f₁ (f₂ ∷ f₃ ∷ []) q₁ e b₁ s₀.2 (omega (arith, s₀.3)) t
 
       module _ (n₁ : ℕ) (b₂ : List ℕ) (q₂ : ℕ) (t₁ : Took b₁ q₁ (width f₁) n₁ b₂ q₂) where
         s₁ : (asked (f₁ ∷ f₂ ∷ f₃ ∷ []) ≡ asked (f₂ ∷ f₃ ∷ [])) × (n₁ ≡ stating (bits_of b) p f₁) × (b₂ ≡ b) × (q₂ ≡ p + offset f₁ + width f₁)
-        s₁ = yes-step f₁ (f₂ ∷ f₃ ∷ []) q₁ n₁ b₁ b₂ q₂ s₀.2 (omega (arith, s₀.3)) t₁
+        s₁ = yes_step f₁ (f₂ ∷ f₃ ∷ []) q₁ n₁ b₁ b₂ q₂ s₀.2 (omega (arith, s₀.3)) t₁
 
-        pub third-missing : (e : BitFault) → Err e ≡ taken (bits_of b₂) q₂ (width f₂) → four ≡ Some e
-        third-missing e t = s₀.0 ∙ s₁.0 ∙ no_step f₂ (f₃ ∷ []) q₂ e b₂ s₁.2 (omega (arith, s₁.3)) t
+        pub third_missing : (e : BitFault) → Err e ≡ taken (bits_of b₂) q₂ (width f₂) → four ≡ Some e
+        third_missing e t = s₀.0 ∙ s₁.0 ∙ no_step f₂ (f₃ ∷ []) q₂ e b₂ s₁.2 (omega (arith, s₁.3)) t
 
         module _ (n₂ : ℕ) (b₃ : List ℕ) (q₃ : ℕ) (t₂ : Took b₂ q₂ (width f₂) n₂ b₃ q₃) where
           s₂ : (asked (f₂ ∷ f₃ ∷ []) ≡ asked (f₃ ∷ [])) × (n₂ ≡ stating (bits_of b) p f₂) × (b₃ ≡ b) × (q₃ ≡ p + offset f₂ + width f₂)
-          s₂ = yes-step f₂ (f₃ ∷ []) q₂ n₂ b₂ b₃ q₃ s₁.2 (omega (arith, s₁.3)) t₂
+          s₂ = yes_step f₂ (f₃ ∷ []) q₂ n₂ b₂ b₃ q₃ s₁.2 (omega (arith, s₁.3)) t₂
 
-          pub fourth-missing : (e : BitFault) → Err e ≡ taken (bits_of b₃) q₃ (width f₃) → four ≡ Some e
-          fourth-missing e t = s₀.0 ∙ s₁.0 ∙ s₂.0 ∙ no_step f₃ [] q₃ e b₃ s₂.2 (omega (arith, s₂.3)) t
+          pub fourth_missing : (e : BitFault) → Err e ≡ taken (bits_of b₃) q₃ (width f₃) → four ≡ Some e
+          fourth_missing e t = s₀.0 ∙ s₁.0 ∙ s₂.0 ∙ no_step f₃ [] q₃ e b₃ s₂.2 (omega (arith, s₂.3)) t
 
           -- all four are there, and the numbers are the stated ones
           pub all_there : (n₃ : ℕ) (b₄ : List ℕ) (q₄ : ℕ) → Took b₃ q₃ (width f₃) n₃ b₄ q₄
               → (Ok (n₀, n₁, n₂, n₃) ≡ four_answer (bits_of b) p f₀ f₁ f₂ f₃) × (b₄ ≡ b) × (q₄ ≡ p + offset f₃ + width f₃)
           all_there n₃ b₄ q₄ t₃ =
-              let s₃ = yes-step f₃ [] q₃ n₃ b₃ b₄ q₄ s₂.2 (omega (arith, s₂.3)) t₃ in
+              let s₃ = yes_step f₃ [] q₃ n₃ b₃ b₄ q₄ s₂.2 (omega (arith, s₂.3)) t₃ in
               let yes : four ≡ None = s₀.0 ∙ s₁.0 ∙ s₂.0 ∙ s₃.0 in
               let f = stating (bits_of b) p in (
                 ap₂ (λ (x y : ℕ). Ok (quad x y n₂ n₃)) s₀.1 s₁.1 ∙ ap₂ (λ (x y : ℕ). Ok (quad (f f₀) (f f₁) x y)) s₂.1 s₃.1

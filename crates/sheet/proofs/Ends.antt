@@ -96,9 +96,9 @@ module _ (bs : List ℕ) (r p : ℕ) (here : p ≡ record_start r) (held : p ≤
     few : ltb (length (bits_of bs) - p) 8 ≡ true
     few = lt-ltb (length (bits_of bs) - p) 8 (omega (arith, length_bits_of bs))
 
-    pub whole-bytes : p % 8 ≡ 0 → asked ≡ None
+    pub whole_bytes : p % 8 ≡ 0 → asked ≡ None
     unfolding all_zero
-    whole-bytes h =
+    whole_bytes h =
         let e = drop_all p (bits_of bs) (omega (arith, length_bits_of bs, whole_le p (length bs) h short)) in
         by_tests true true (zeros_before (drop p (bits_of bs))) few (ap all_zero e) refl
 

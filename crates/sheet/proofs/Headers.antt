@@ -39,9 +39,9 @@ module _ (b : List ℕ) (p entries : ℕ) (here : p ≡ 0) where
   abbrev taken_at : ℕ → Result (ℕ × ℕ × ℕ × ℕ) BitFault
   taken_at q = four_answer bits q Places Home Port Routes
 
-  pub fields-refused : (e : BitFault) → Err e ≡ taken_at p → asked ≡ Some (Bits e)
+  pub fields_refused : (e : BitFault) → Err e ≡ taken_at p → asked ≡ Some (Bits e)
   unfolding header_questions
-  fields-refused e t =
+  fields_refused e t =
       first_some (handed_up Bits fields ++ handed_up Frame frames) limits (Bits e)
       (handed_no Bits fields (handed_up Frame frames) e (refusal (first_no fields) _ e (t ∙ ap taken_at here)))
 
@@ -56,36 +56,36 @@ module _ (b : List ℕ) (p entries : ℕ) (here : p ≡ 0) where
         let e = a.1 in
         (a.0, ap (λ (x : ℕ × ℕ × ℕ × ℕ). shape_from x) e, ap (λ (x : ℕ × ℕ × ℕ × ℕ). x.3) e)
 
-    past-fields : asked ≡ first_no (handed_up Frame frames ++ limits)
+    past_fields : asked ≡ first_no (handed_up Frame frames ++ limits)
     unfolding header_questions
-    past-fields =
+    past_fields =
         ap first_no (append_assoc (handed_up Bits fields) (handed_up Frame frames) limits)
         ∙ handed_on Bits fields (handed_up Frame frames ++ limits) read.0
 
     pub frame_refused : (e : FrameFault) → Err e ≡ frame_answer n₀ n₁ n₂ → asked ≡ Some (Frame e)
     frame_refused e f =
         let no : first_no frames ≡ Some e = ap (λ (x : Shape). first_no (frame_questions x)) (sym read.1) ∙ refusal (first_no (frame_questions given)) given e f in
-        past-fields ∙ handed_no Frame frames limits e no
+        past_fields ∙ handed_no Frame frames limits e no
 
     module _ (x : Shape) (f : Ok x ≡ frame_answer n₀ n₁ n₂) where
       -- past the frame the two limits are left
-      pub frame-accepted : (asked ≡ first_no limits) × (x ≡ (stated bits).shape) × (n₃ ≡ stating bits 0 Routes)
-      frame-accepted =
+      pub frame_accepted : (asked ≡ first_no limits) × (x ≡ (stated bits).shape) × (n₃ ≡ stating bits 0 Routes)
+      frame_accepted =
           let y = acceptance (first_no (frame_questions given)) given x f in
           let all : first_no frames ≡ None = ap (λ (z : Shape). first_no (frame_questions z)) (sym read.1) ∙ y.0 in
-          (past-fields ∙ handed_on Frame frames limits all, y.1 ∙ read.1, read.2)
+          (past_fields ∙ handed_on Frame frames limits all, y.1 ∙ read.1, read.2)
 
-      by-limits : (few room : Bool) → leb (stating bits 0 Routes) 512 ≡ few → leb (stating bits 0 Routes) entries ≡ room
+      by_limits : (few room : Bool) → leb (stating bits 0 Routes) 512 ≡ few → leb (stating bits 0 Routes) entries ≡ room
           → asked ≡ cond few (cond room None (Some EntryLimit)) (Some RouteLimit)
-      by-limits few room p q = frame-accepted.0 ∙ ap₂ (λ (y z : Bool). cond y (cond z None (Some EntryLimit)) (Some RouteLimit)) p q
+      by_limits few room p q = frame_accepted.0 ∙ ap₂ (λ (y z : Bool). cond y (cond z None (Some EntryLimit)) (Some RouteLimit)) p q
 
-      pub over-limit : 512 < n₃ → asked ≡ Some RouteLimit
-      over-limit h = by-limits false (leb (stating bits 0 Routes) entries) (lt-leb (stating bits 0 Routes) 512 (omega (arith, read.2))) refl
+      pub over_limit : 512 < n₃ → asked ≡ Some RouteLimit
+      over_limit h = by_limits false (leb (stating bits 0 Routes) entries) (lt-leb (stating bits 0 Routes) 512 (omega (arith, read.2))) refl
 
-      pub over-entries : n₃ ≤ 512 → entries < n₃ → asked ≡ Some EntryLimit
-      over-entries h k =
-          by-limits true false (le-leb (stating bits 0 Routes) 512 (omega (arith, read.2))) (lt-leb (stating bits 0 Routes) entries (omega (arith, read.2)))
+      pub over_entries : n₃ ≤ 512 → entries < n₃ → asked ≡ Some EntryLimit
+      over_entries h k =
+          by_limits true false (le-leb (stating bits 0 Routes) 512 (omega (arith, read.2))) (lt-leb (stating bits 0 Routes) entries (omega (arith, read.2)))
 
-      pub within-limits : n₃ ≤ 512 → n₃ ≤ entries → asked ≡ None
-      within-limits h k =
-          by-limits true true (le-leb (stating bits 0 Routes) 512 (omega (arith, read.2))) (le-leb (stating bits 0 Routes) entries (omega (arith, read.2)))
+      pub within_limits : n₃ ≤ 512 → n₃ ≤ entries → asked ≡ None
+      within_limits h k =
+          by_limits true true (le-leb (stating bits 0 Routes) 512 (omega (arith, read.2))) (le-leb (stating bits 0 Routes) entries (omega (arith, read.2)))

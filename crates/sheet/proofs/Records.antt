@@ -37,9 +37,9 @@ module _ (b : List ℕ) (p k : ℕ) (s : Shape) (here : p ≡ record_start k) wh
   abbrev taken_at : ℕ → Result (ℕ × ℕ × ℕ × ℕ) BitFault
   taken_at q = four_answer bits q Start End Floor Ceiling
 
-  pub fields-refused : (e : BitFault) → Err e ≡ taken_at p → asked ≡ Some (Bits e)
+  pub fields_refused : (e : BitFault) → Err e ≡ taken_at p → asked ≡ Some (Bits e)
   unfolding record_questions
-  fields-refused e t =
+  fields_refused e t =
       handed_no Bits fields (handed_up Order (order_questions s k route)) e (refusal (first_no fields) _ e (t ∙ ap taken_at here))
 
   module _ (n₀ n₁ n₂ n₃ : ℕ) (t : Ok (n₀, n₁, n₂, n₃) ≡ taken_at p) where
@@ -58,25 +58,25 @@ module _ (b : List ℕ) (p k : ℕ) (s : Shape) (here : p ≡ record_start k) wh
     unfolding route_at
     same = ap route_from read.1
 
-    past-fields : asked ≡ first_no (handed_up Order (order_questions s k given))
+    past_fields : asked ≡ first_no (handed_up Order (order_questions s k given))
     unfolding record_questions
-    past-fields =
+    past_fields =
         handed_on Bits fields (handed_up Order (order_questions s k route)) read.0
         ∙ ap (λ (x : Route). first_no (handed_up Order (order_questions s k x))) (sym same)
 
     -- 13 bits are below 2 ^ 13
-    pub floor-fits : n₂ < 2 ^ 13
-    floor-fits =
+    pub floor_fits : n₂ < 2 ^ 13
+    floor_fits =
         let e : n₂ ≡ stating bits (record_start k) Floor = ap (λ (x : ℕ × ℕ × ℕ × ℕ). x.2) read.1 in
         rw e (field_at_lt bits (record_start k + 14) 13 (binary_bits_of b))
 
-    pub route-refused : (e : OrderFault) → Err e ≡ order_answer s k given → asked ≡ Some (Order e)
-    route-refused e u =
-        past-fields ∙ some_handed Order (order_questions s k given) e (refusal (first_no (order_questions s k given)) given e u)
+    pub route_refused : (e : OrderFault) → Err e ≡ order_answer s k given → asked ≡ Some (Order e)
+    route_refused e u =
+        past_fields ∙ some_handed Order (order_questions s k given) e (refusal (first_no (order_questions s k given)) given e u)
 
     pub route_accepted : (x : Route) → Ok x ≡ order_answer s k given → asked ≡ None
     route_accepted x u =
-        past-fields ∙ all_handed Order (order_questions s k given) (acceptance (first_no (order_questions s k given)) given x u).0
+        past_fields ∙ all_handed Order (order_questions s k given) (acceptance (first_no (order_questions s k given)) given x u).0
 
 -- the records from route k on, one by one: `whole` is what they decide together
 module _ (b b₀ : List ℕ) (s : Shape) (k n : ℕ) (whole : Option SheetFault) (same : b ≡ b₀)
@@ -89,20 +89,20 @@ module _ (b b₀ : List ℕ) (s : Shape) (k n : ℕ) (whole : Option SheetFault)
       ∙ ap (λ (x : ℕ). first_no (record_questions (bits_of b₀) s k ++ records_questions (bits_of b₀) s x (n - (k + 1)))) (sym (add-one k))
       ∙ ap (λ (x : List ℕ). first_no (record_questions (bits_of x) s k ++ records_questions (bits_of b₀) s (k + 1) (n - (k + 1)))) (sym same)
 
-  pub records-stop : k < n → (f : SheetFault) → Err f ≡ answer {X = Unit {0}} (first_no (record_questions (bits_of b) s k)) tt → whole ≡ Some f
-  records-stop h f t =
+  pub records_stop : k < n → (f : SheetFault) → Err f ≡ answer {X = Unit {0}} (first_no (record_questions (bits_of b) s k)) tt → whole ≡ Some f
+  records_stop h f t =
       one_more h
       ∙ first_some (record_questions (bits_of b) s k) (records_questions (bits_of b₀) s (k + 1) (n - (k + 1))) f
       (refusal (first_no (record_questions (bits_of b) s k)) tt f t)
 
-  pub records-on : k < n → Ok tt ≡ answer {X = Unit {0}} (first_no (record_questions (bits_of b) s k)) tt
+  pub records_on : k < n → Ok tt ≡ answer {X = Unit {0}} (first_no (record_questions (bits_of b) s k)) tt
       → first_no (records_questions (bits_of b₀) s (k + 1) (n - (k + 1))) ≡ whole
-  records-on h t =
+  records_on h t =
       sym
       (one_more h
       ∙ first_none (record_questions (bits_of b) s k) (records_questions (bits_of b₀) s (k + 1) (n - (k + 1)))
       (acceptance (first_no (record_questions (bits_of b) s k)) tt tt t).0)
 
-  pub records-end : n ≤ k → whole ≡ None
+  pub records_end : n ≤ k → whole ≡ None
   unfolding records_questions
-  records-end h = let e : n - k ≡ 0 = omega arith in sym left ∙ ap (λ (x : ℕ). first_no (records_questions (bits_of b₀) s k x)) e
+  records_end h = let e : n - k ≡ 0 = omega arith in sym left ∙ ap (λ (x : ℕ). first_no (records_questions (bits_of b₀) s k x)) e

@@ -91,8 +91,8 @@ frame_shape f =
     record {
       several = f.several;
       few = f.few;
-      home-inside = f.home_inside;
-      port-inside = f.port_inside;
+      home_inside = f.home_inside;
+      port_inside = f.port_inside;
       apart = f.apart;
     }
 

@@ -3,7 +3,7 @@ use Rattle.std.proofs.Common.{◌≡◌, ℕ, ◌+◌, ◌*◌, ◌≤◌, List,
 use Rattle.board.proofs.First.{first_none, first_some, refusal, acceptance}
 use Rattle.board.specs.Questions.{first_no, answer}
 use Rattle.bits.proofs.Bits.{length_bits_of}
-use Rattle.layout.proofs.Held.{header-held, records_held}
+use Rattle.layout.proofs.Held.{header_held, records_held}
 use Rattle.bits.specs.Bits.{bits_of}
 use Rattle.bits.specs.Fields.{record_start}
 use Rattle.sheet.specs.Header.{Numbers, stated_header}
@@ -23,28 +23,28 @@ module _ (bs b₀ : List ℕ) (entries : ℕ) (same₀ : b₀ ≡ bs) where
   abbrev records : Option SheetFault
   records = first_no (records_questions bits (stated bits).shape 0 (stating bits 0 Routes))
 
-  header-first : (f : SheetFault) → header ≡ Some f → sheet_fault entries bits ≡ Some f
+  header_first : (f : SheetFault) → header ≡ Some f → sheet_fault entries bits ≡ Some f
   unfolding sheet_questions
-  header-first f e =
+  header_first f e =
       first_some (header_questions entries bits ++ records_questions bits (stated bits).shape 0 (stating bits 0 Routes)) (end_questions bits (stating bits 0 Routes)) f
       (first_some (header_questions entries bits) (records_questions bits (stated bits).shape 0 (stating bits 0 Routes)) f e)
 
-  records-next : (f : SheetFault) → header ≡ None → records ≡ Some f → sheet_fault entries bits ≡ Some f
+  records_next : (f : SheetFault) → header ≡ None → records ≡ Some f → sheet_fault entries bits ≡ Some f
   unfolding sheet_questions
-  records-next f e g =
+  records_next f e g =
       first_some (header_questions entries bits ++ records_questions bits (stated bits).shape 0 (stating bits 0 Routes)) (end_questions bits (stating bits 0 Routes)) f
       (first_none (header_questions entries bits) (records_questions bits (stated bits).shape 0 (stating bits 0 Routes)) e ∙ g)
 
-  end-last : header ≡ None → records ≡ None → sheet_fault entries bits ≡ first_no (end_questions bits (stating bits 0 Routes))
+  end_last : header ≡ None → records ≡ None → sheet_fault entries bits ≡ first_no (end_questions bits (stating bits 0 Routes))
   unfolding sheet_questions
-  end-last e g =
+  end_last e g =
       first_none (header_questions entries bits ++ records_questions bits (stated bits).shape 0 (stating bits 0 Routes)) (end_questions bits (stating bits 0 Routes))
       (first_none (header_questions entries bits) (records_questions bits (stated bits).shape 0 (stating bits 0 Routes)) e ∙ g)
 
   pub header_refused : (f : SheetFault) → Err f ≡ answer (first_no (header_questions entries (bits_of b₀))) (stated_header (bits_of b₀))
       → sheet_fault entries bits ≡ Some f
   header_refused f t =
-      header-first f
+      header_first f
       (ap (λ (x : List ℕ). first_no (header_questions entries (bits_of x))) (sym same₀)
       ∙ refusal (first_no (header_questions entries (bits_of b₀))) (stated_header (bits_of b₀)) f t)
 
@@ -61,22 +61,22 @@ module _ (bs b₀ : List ℕ) (entries : ℕ) (same₀ : b₀ ≡ bs) where
         ap (λ (x : Numbers). first_no (records_questions bits x.shape 0 x.routes)) (sym accepted.1)
         ∙ ap (λ (x : List ℕ). first_no (records_questions (bits_of x) h.shape 0 h.routes)) (sym (same₁ ∙ same₀))
 
-    pub records-refused : (f : SheetFault) → Err f ≡ answer {X = Unit {0}} (first_no (records_questions (bits_of b₁) h.shape 0 h.routes)) tt
+    pub records_refused : (f : SheetFault) → Err f ≡ answer {X = Unit {0}} (first_no (records_questions (bits_of b₁) h.shape 0 h.routes)) tt
         → sheet_fault entries bits ≡ Some f
-    records-refused f u =
-        records-next f accepted.0 (as_read ∙ refusal (first_no (records_questions (bits_of b₁) h.shape 0 h.routes)) tt f u)
+    records_refused f u =
+        records_next f accepted.0 (as_read ∙ refusal (first_no (records_questions (bits_of b₁) h.shape 0 h.routes)) tt f u)
 
     module _ (u : Ok tt ≡ answer {X = Unit {0}} (first_no (records_questions (bits_of b₁) h.shape 0 h.routes)) tt) where
       all_yes : records ≡ None
       all_yes = as_read ∙ (acceptance (first_no (records_questions (bits_of b₁) h.shape 0 h.routes)) tt tt u).0
 
-      pub records-inside : record_start h.routes ≤ 8 * length bs
-      records-inside =
-          let first = header-held entries bits accepted.0 in
+      pub records_inside : record_start h.routes ≤ 8 * length bs
+      records_inside =
+          let first = header_held entries bits accepted.0 in
           let l = records_held bits (stated bits).shape 0 (stating bits 0 Routes) first all_yes in
           let n : h.routes ≡ stating bits 0 Routes = ap (λ (x : Numbers). x.routes) accepted.1 in
           omega (arith, length_bits_of bs)
 
-      pub end-decides : sheet_fault entries bits ≡ first_no (end_questions bits h.routes)
-      end-decides =
-          end-last accepted.0 all_yes ∙ ap (λ (x : Numbers). first_no (end_questions bits x.routes)) (sym accepted.1)
+      pub end_decides : sheet_fault entries bits ≡ first_no (end_questions bits h.routes)
+      end_decides =
+          end_last accepted.0 all_yes ∙ ap (λ (x : Numbers). first_no (end_questions bits x.routes)) (sym accepted.1)

@@ -1,6 +1,6 @@
 -- By the law `same` of the entries.
-use Rattle.heap.proofs.Orders.{one-first}
+use Rattle.heap.proofs.Orders.{one_first}
 use Rattle.heap.proofs.laws.first_is_one.Goals as goal
 
 pub returns : goal.returns
-returns g c = one-first g.E.Entry.before g.met.E.Entry.same
+returns g c = one_first g.E.Entry.before g.met.E.Entry.same

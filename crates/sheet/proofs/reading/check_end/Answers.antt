@@ -2,7 +2,7 @@
 use Rattle.std.proofs.Common.{◌≡◌, ℕ, ◌-◌, ◌*◌, ◌%◌, ◌^◌, sym, ap, arith}
 use Rattle.std.proofs.lemmas.Nat.{one_shl}
 use Rattle.board.specs.Questions.{answer}
-use Rattle.sheet.proofs.Ends.{trailing, whole-bytes, padded, unpadded}
+use Rattle.sheet.proofs.Ends.{trailing, whole_bytes, padded, unpadded}
 use Rattle.sheet.proofs.reading.check_end.Goals as goal
 
 pub returns-then-bytes-end : goal.returns-then-bytes-end
@@ -14,7 +14,7 @@ pub returns-then-end-eq0 : goal.returns-then-end-eq0
 returns-then-end-eq0 c =
     ap (λ x. answer x tt)
     (sym
-    (whole-bytes c.args.bytes.now c.args.routes c.record-start-end.result c.record-start-end.ensures (omega arith)
+    (whole_bytes c.args.bytes.now c.args.routes c.record-start-end.result c.record-start-end.ensures (omega arith)
     c.if-bytes-end.false c.if-end-eq0.true))
 
 -- a shift by at most 7 within a byte

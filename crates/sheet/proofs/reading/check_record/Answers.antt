@@ -4,7 +4,7 @@ use Rattle.std.proofs.lemmas.Result.{err_from_is_err_and}
 use Rattle.board.specs.Board.{shape_of}
 use Rattle.board.specs.Questions.{answer}
 use Rattle.sheet.proofs.Exits.{refused_by}
-use Rattle.sheet.proofs.Records.{fields-refused, floor-fits, route-refused, route_accepted}
+use Rattle.sheet.proofs.Records.{fields_refused, floor_fits, route_refused, route_accepted}
 use Rattle.sheet.proofs.reading.check_record.Goals as goal
 
 pub returns-in-err-start : goal.returns-in-err-start
@@ -13,7 +13,7 @@ returns-in-err-start c =
     record {
       answer =
           refused_by _ _ _ _ tt p.1 p.2
-          (fields-refused c.args.reader.now.bytes.now c.args.reader.now.position c.args.route (shape_of c.args.frame.now) c.requires
+          (fields_refused c.args.reader.now.bytes.now c.args.reader.now.position c.args.route (shape_of c.args.frame.now) c.requires
           c.in-err-start.field-0.0 c.in-err-start.ensures.answer);
       position = rw p.1 tt;
       bytes = c.in-err-start.ensures.bytes;
@@ -21,7 +21,7 @@ returns-in-err-start c =
 
 pub order-route-requires : goal.order-route-requires
 order-route-requires c =
-    floor-fits c.args.reader.now.bytes.now c.args.reader.now.position c.args.route (shape_of c.args.frame.now) c.requires
+    floor_fits c.args.reader.now.bytes.now c.args.reader.now.position c.args.route (shape_of c.args.frame.now) c.requires
     c.in-ok-start.start c.in-ok-start.end c.in-ok-start.floor
     c.in-ok-start.ceiling c.in-ok-start.ensures.answer
 
@@ -31,7 +31,7 @@ returns-in-err-order-route c =
     record {
       answer =
           refused_by _ _ _ _ tt p.1 p.2
-          (route-refused c.args.reader.now.bytes.now c.args.reader.now.position c.args.route (shape_of c.args.frame.now) c.requires
+          (route_refused c.args.reader.now.bytes.now c.args.reader.now.position c.args.route (shape_of c.args.frame.now) c.requires
           c.in-ok-start.start c.in-ok-start.end c.in-ok-start.floor
           c.in-ok-start.ceiling c.in-ok-start.ensures.answer c.in-err-order-route.field-0.0
           c.in-err-order-route.ensures);

@@ -4,7 +4,7 @@ use Rattle.std.proofs.lemmas.Result.{err_from_is_err_and}
 use Rattle.board.specs.Board.{shape_of}
 use Rattle.board.specs.Questions.{answer}
 use Rattle.sheet.proofs.Exits.{refused_by}
-use Rattle.sheet.proofs.Records.{records-stop, records-on, records-end}
+use Rattle.sheet.proofs.Records.{records_stop, records_on, records_end}
 use Rattle.sheet.proofs.reading.check_records.Goals as goal
 
 pub returns-in-err-check-record : goal.returns-in-err-check-record
@@ -14,7 +14,7 @@ returns-in-err-check-record c =
     record {
       answer =
           refused_by _ _ _ _ tt p.1 p.2
-          (records-stop c.loop-route.reader.bytes.now c.args.reader.now.bytes.now (shape_of c.args.header.now.frame) c.loop-route.route
+          (records_stop c.loop-route.reader.bytes.now c.args.reader.now.bytes.now (shape_of c.args.header.now.frame) c.loop-route.route
           c.args.header.now.routes _ i.1 i.2 c.loop-route-test.true c.in-err-check-record.field-0.0
           c.in-err-check-record.ensures.answer);
     }
@@ -25,7 +25,7 @@ loop-route-preserved c =
     let a = c.in-ok-check-record.ensures in (
       a.position,
       a.bytes ∙ i.1,
-      records-on c.loop-route.reader.bytes.now c.args.reader.now.bytes.now (shape_of c.args.header.now.frame) c.loop-route.route
+      records_on c.loop-route.reader.bytes.now c.args.reader.now.bytes.now (shape_of c.args.header.now.frame) c.loop-route.route
           c.args.header.now.routes _ i.1 i.2 c.loop-route-test.true a.answer,
     )
 
@@ -33,7 +33,7 @@ pub returns : goal.returns
 returns c =
     let i = c.loop-route.invariant in
     let e =
-    records-end c.loop-route.reader.bytes.now c.args.reader.now.bytes.now (shape_of c.args.header.now.frame) c.loop-route.route
+    records_end c.loop-route.reader.bytes.now c.args.reader.now.bytes.now (shape_of c.args.header.now.frame) c.loop-route.route
     c.args.header.now.routes _ i.1 i.2 c.loop-route-test.false
     in
     record { answer = ap (λ x. answer x tt) (sym e) }

@@ -5,7 +5,7 @@ use Rattle.board.specs.Board.{shape_of}
 use Rattle.board.specs.Questions.{answer}
 use Rattle.bits.specs.Bits.{bits_of}
 use Rattle.sheet.proofs.Exits.{refused_through}
-use Rattle.sheet.proofs.Headers.{fields-refused, frame_refused, frame-accepted, over-limit, over-entries, within-limits}
+use Rattle.sheet.proofs.Headers.{fields_refused, frame_refused, frame_accepted, over_limit, over_entries, within_limits}
 use Rattle.sheet.specs.Header.{stated_of, stated_header}
 use Rattle.sheet.proofs.reading.read_header.Goals as goal
 
@@ -15,7 +15,7 @@ returns-in-err-places c =
     record {
       answer =
           refused_through stated_of _ _ _ _ _ p.1 p.2
-          (fields-refused c.args.reader.now.bytes.now c.args.reader.now.position c.args.entries c.requires
+          (fields_refused c.args.reader.now.bytes.now c.args.reader.now.position c.args.entries c.requires
           c.in-err-places.field-0.0 c.in-err-places.ensures.answer);
       position = rw p.1 tt;
       bytes = c.in-err-places.ensures.bytes;
@@ -39,7 +39,7 @@ returns-in-err-frame c =
 pub returns-then-routes-gt-ROUTE-LIMIT : goal.returns-then-routes-gt-ROUTE-LIMIT
 returns-then-routes-gt-ROUTE-LIMIT c =
     let e =
-    over-limit c.args.reader.now.bytes.now c.args.reader.now.position c.args.entries c.requires
+    over_limit c.args.reader.now.bytes.now c.args.reader.now.position c.args.entries c.requires
     c.in-ok-places.places c.in-ok-places.home c.in-ok-places.port
     c.in-ok-places.routes c.in-ok-places.ensures.answer
     (shape_of c.in-ok-frame.frame) c.in-ok-frame.ensures.answer (omega arith)
@@ -53,7 +53,7 @@ returns-then-routes-gt-ROUTE-LIMIT c =
 pub returns-then-routes-entries : goal.returns-then-routes-entries
 returns-then-routes-entries c =
     let e =
-    over-entries c.args.reader.now.bytes.now c.args.reader.now.position c.args.entries c.requires
+    over_entries c.args.reader.now.bytes.now c.args.reader.now.position c.args.entries c.requires
     c.in-ok-places.places c.in-ok-places.home c.in-ok-places.port
     c.in-ok-places.routes c.in-ok-places.ensures.answer
     (shape_of c.in-ok-frame.frame) c.in-ok-frame.ensures.answer (omega arith) (omega arith)
@@ -67,13 +67,13 @@ returns-then-routes-entries c =
 pub returns : goal.returns
 returns c =
     let a =
-    frame-accepted c.args.reader.now.bytes.now c.args.reader.now.position c.args.entries c.requires
+    frame_accepted c.args.reader.now.bytes.now c.args.reader.now.position c.args.entries c.requires
     c.in-ok-places.places c.in-ok-places.home c.in-ok-places.port
     c.in-ok-places.routes c.in-ok-places.ensures.answer
     (shape_of c.in-ok-frame.frame) c.in-ok-frame.ensures.answer
     in
     let e =
-    within-limits c.args.reader.now.bytes.now c.args.reader.now.position c.args.entries c.requires
+    within_limits c.args.reader.now.bytes.now c.args.reader.now.position c.args.entries c.requires
     c.in-ok-places.places c.in-ok-places.home c.in-ok-places.port
     c.in-ok-places.routes c.in-ok-places.ensures.answer
     (shape_of c.in-ok-frame.frame) c.in-ok-frame.ensures.answer (omega arith) (omega arith)

@@ -1,7 +1,7 @@
 -- Each exit is the first field that is missing, by those that were taken before it.
 use Rattle.std.proofs.Common.{◌∙◌}
 use Rattle.std.proofs.lemmas.Result.{err_from_is_err_and}
-use Rattle.sheet.proofs.Asked.{first-missing, second-missing, third-missing, fourth-missing, all_there}
+use Rattle.sheet.proofs.Asked.{first_missing, second_missing, third_missing, fourth_missing, all_there}
 use Rattle.sheet.proofs.Exits.{refused_by}
 use Rattle.sheet.proofs.reading.take_four.Goals as goal
 
@@ -11,7 +11,7 @@ returns-in-err-first c =
     record {
       answer =
           refused_by _ _ _ _ _ p.1 p.2
-          (first-missing c.args.reader.now.bytes.now c.args.reader.now.position c.requires.start c.args.a c.args.b c.args.c c.args.d c.requires.turn
+          (first_missing c.args.reader.now.bytes.now c.args.reader.now.position c.requires.start c.args.a c.args.b c.args.c c.args.d c.requires.turn
           c.in-err-first.field-0.0 c.in-err-first.ensures.answer);
       position = rw p.1 tt;
       bytes = c.in-err-first.ensures.bytes;
@@ -23,7 +23,7 @@ returns-in-err-second c =
     record {
       answer =
           refused_by _ _ _ _ _ p.1 p.2
-          (second-missing c.args.reader.now.bytes.now c.args.reader.now.position c.requires.start c.args.a c.args.b c.args.c c.args.d c.requires.turn
+          (second_missing c.args.reader.now.bytes.now c.args.reader.now.position c.requires.start c.args.a c.args.b c.args.c c.args.d c.requires.turn
           c.in-ok-first.first c.take.new.self.bytes.now c.take.new.self.position c.in-ok-first.ensures
           c.in-err-second.field-0.0 c.in-err-second.ensures.answer);
       position = rw p.1 tt;
@@ -36,7 +36,7 @@ returns-in-err-third c =
     record {
       answer =
           refused_by _ _ _ _ _ p.1 p.2
-          (third-missing c.args.reader.now.bytes.now c.args.reader.now.position c.requires.start c.args.a c.args.b c.args.c c.args.d c.requires.turn
+          (third_missing c.args.reader.now.bytes.now c.args.reader.now.position c.requires.start c.args.a c.args.b c.args.c c.args.d c.requires.turn
           c.in-ok-first.first c.take.new.self.bytes.now c.take.new.self.position c.in-ok-first.ensures
           c.in-ok-second.second c.take-2.new.self.bytes.now c.take-2.new.self.position c.in-ok-second.ensures
           c.in-err-third.field-0.0 c.in-err-third.ensures.answer);
@@ -50,7 +50,7 @@ returns-in-err-fourth c =
     record {
       answer =
           refused_by _ _ _ _ _ p.1 p.2
-          (fourth-missing c.args.reader.now.bytes.now c.args.reader.now.position c.requires.start c.args.a c.args.b c.args.c c.args.d c.requires.turn
+          (fourth_missing c.args.reader.now.bytes.now c.args.reader.now.position c.requires.start c.args.a c.args.b c.args.c c.args.d c.requires.turn
           c.in-ok-first.first c.take.new.self.bytes.now c.take.new.self.position c.in-ok-first.ensures
           c.in-ok-second.second c.take-2.new.self.bytes.now c.take-2.new.self.position c.in-ok-second.ensures
           c.in-ok-third.third c.take-3.new.self.bytes.now c.take-3.new.self.position c.in-ok-third.ensures

@@ -25,7 +25,7 @@ write-record-requires c =
     let v = All-get_or (ValidRoute (shape_of c.args.frame.now)) c.args.routes.now c.loop-route.route-index blank c.loop-route-test.true c.requires.each in
     let h = c.write-header.ensures.placed.as_long in
     let l = c.loop-route.invariant.1.as_long in
-    record { floor = (omega (arith, ints), omega (arith, ints)); ceiling = v.ceiling-low; room = grind (arith, nat_tests) }
+    record { floor = (omega (arith, ints), omega (arith, ints)); ceiling = v.ceiling_low; room = grind (arith, nat_tests) }
 
 pub loop-route-preserved : goal.loop-route-preserved
 loop-route-preserved c =

@@ -1,6 +1,6 @@
 -- The bits are there exactly where the bytes hold the field.
 use Rattle.std.proofs.Common.{Ok, ap, ◌∙◌}
-use Rattle.bits.proofs.Taken.{taken_none, taken-some}
+use Rattle.bits.proofs.Taken.{taken_none, taken_some}
 use Rattle.bits.specs.Fields.{width}
 use Rattle.bits.proofs.reader.BitReader.take.Goals as goal
 
@@ -18,7 +18,7 @@ returns-in-default c =
 pub returns : goal.returns
 returns c =
     let t =
-    taken-some c.args.self.now.bytes.now c.args.self.now.position (width c.args.field) c.end-of.result
+    taken_some c.args.self.now.bytes.now c.args.self.now.position (width c.args.field) c.end-of.result
     c.end-of.ensures c.in-Some.end c.in-Some.is
     in
     record { answer = ap Ok c.field-at.ensures.value ∙ t.1; bound = c.field-at.ensures.bound; position = t.0; bytes = search }

@@ -4,9 +4,9 @@ use Rattle.std.specs.List.Sorted.{IsPermutation}
 use Rattle.std.proofs.lemmas.List.{nil_from_length, length-set}
 use Rattle.std.proofs.lemmas.List.Sorted.{IsPermutation-cons, IsPermutation-trans}
 use Rattle.heap.specs.Held.{held}
-use Rattle.heap.proofs.Moves.{held-within, held-read, held-popped, shuffled-pop}
-use Rattle.heap.proofs.Orders.{ordered-first}
-use Rattle.heap.proofs.Sinking.{first-may-sink}
+use Rattle.heap.proofs.Moves.{held_within, held_read, held_popped, shuffled_pop}
+use Rattle.heap.proofs.Orders.{ordered_first}
+use Rattle.heap.proofs.Sinking.{first_may_sink}
 use Rattle.heap.proofs.heap.Heap.pop.Goals as goal
 
 pub returns-then-len-eq0 : goal.returns-then-len-eq0
@@ -16,20 +16,20 @@ returns-then-len-eq0 g c =
 
 pub bounds-self-0 : goal.bounds-self-0
 bounds-self-0 g c =
-    held-within c.args.self.now 0 (omega arith)
+    held_within c.args.self.now 0 (omega arith)
 
 pub offset-bounds-self-len : goal.offset-bounds-self-len
 offset-bounds-self-len g c =
-    let h = held-within c.args.self.now (c.len-len.result - 1) (omega arith) in
+    let h = held_within c.args.self.now (c.len-len.result - 1) (omega arith) in
     search rules
 
 pub bounds-self-len : goal.bounds-self-len
 bounds-self-len g c =
-    held-within c.args.self.now (c.len-len.result - 1) (omega arith)
+    held_within c.args.self.now (c.len-len.result - 1) (omega arith)
 
 pub bounds-self-0-2 : goal.bounds-self-0-2
 bounds-self-0-2 g c =
-    held-within c.args.self.now 0 (omega arith)
+    held_within c.args.self.now 0 (omega arith)
 
 pub returns : goal.returns
 returns g c =
@@ -41,17 +41,17 @@ returns g c =
     let y = get_or h.entries.now (len - 1) c.index-self-len.result in
     let told = c.sift-down.ensures in
     let read : x ≡ get_or h.entries.now 0 x = cc in
-    let first = held-read h 0 x (omega arith) read in
+    let first = held_read h 0 x (omega arith) read in
     let read-last : y ≡ get_or h.entries.now (len - 1) y = cc in
-    let last = held-read h (len - 1) y (omega arith) read-last in
-    let is = held-popped h len y c.len-len.ensures in
-    let taken : IsPermutation xs (x ∷ take (len - 1) (set h.entries.now 0 y)) = rw is (shuffled-pop xs len x y c.len-len.ensures (omega arith) first last) in
+    let last = held_read h (len - 1) y (omega arith) read-last in
+    let is = held_popped h len y c.len-len.ensures in
+    let taken : IsPermutation xs (x ∷ take (len - 1) (set h.entries.now 0 y)) = rw is (shuffled_pop xs len x y c.len-len.ensures (omega arith) first last) in
     record {
       held = (
         IsPermutation-trans _ _ _ taken (IsPermutation-cons x _ _ told.held),
         λ o. (
-          ordered-first before g.met.E.Entry.total g.met.E.Entry.transitive xs x first o,
-          told.order (first-may-sink before xs _ len y c.len-len.ensures is o),
+          ordered_first before g.met.E.Entry.total g.met.E.Entry.transitive xs x first o,
+          told.order (first_may_sink before xs _ len y c.len-len.ensures is o),
         ),
       );
       room = told.room ∙ length-set h.entries.now 0 y;

@@ -2,8 +2,8 @@
 use Rattle.std.proofs.Common.{◌≡◌, true, false, take, refl, ◌∙◌, arith, rules}
 use Rattle.std.proofs.lemmas.List.Sorted.{IsPermutation-refl, IsPermutation-swap, IsPermutation-trans}
 use Rattle.heap.specs.Held.{held}
-use Rattle.heap.proofs.Moves.{held-within, held-compared, held-exchanged}
-use Rattle.heap.proofs.Sinking.{childless-in-order, rested-in-order, child-may-sink}
+use Rattle.heap.proofs.Moves.{held_within, held_compared, held_exchanged}
+use Rattle.heap.proofs.Sinking.{childless_in_order, rested_in_order, child_may_sink}
 use Rattle.heap.proofs.heap.Heap.sift_down.Goals as goal
 
 pub loop-child-init : goal.loop-child-init
@@ -12,22 +12,22 @@ loop-child-init g c = (refl, IsPermutation-refl (held c.args.self.now), λ s. s)
 pub offset-bounds-self-at : goal.offset-bounds-self-at
 offset-bounds-self-at g c =
     let e = c.in-Some.ensures in
-    let h = held-within c.loop-child.self c.loop-child.at (omega arith) in
+    let h = held_within c.loop-child.self c.loop-child.at (omega arith) in
     search rules
 
 pub bounds-self-at : goal.bounds-self-at
 bounds-self-at g c =
     let e = c.in-Some.ensures in
-    held-within c.loop-child.self c.loop-child.at (omega arith)
+    held_within c.loop-child.self c.loop-child.at (omega arith)
 
 pub offset-bounds-self-child : goal.offset-bounds-self-child
 offset-bounds-self-child g c =
-    let h = held-within c.loop-child.self c.in-Some.child c.in-Some.ensures.1 in
+    let h = held_within c.loop-child.self c.in-Some.child c.in-Some.ensures.1 in
     search rules
 
 pub bounds-self-child : goal.bounds-self-child
 bounds-self-child g c =
-    held-within c.loop-child.self c.in-Some.child c.in-Some.ensures.1
+    held_within c.loop-child.self c.in-Some.child c.in-Some.ensures.1
 
 pub returns-then-no-later : goal.returns-then-no-later
 returns-then-no-later g c =
@@ -38,10 +38,10 @@ returns-then-no-later g c =
     let y = c.index-self-child.result in
     let h = c.if-no-later.ensures in
     let t : before x y ≡ true = cc in
-    let rests = held-compared l.self before true l.at c.in-Some.child x y (omega arith) e.1 c.index-self-at.is c.index-self-child.is t in
+    let rests = held_compared l.self before true l.at c.in-Some.child x y (omega arith) e.1 c.index-self-at.is c.index-self-child.is t in
     record {
       held = l.invariant.1;
-      order = λ s. rested-in-order before g.met.E.Entry.transitive (held l.self) l.at c.in-Some.child e rests (l.invariant.2 s);
+      order = λ s. rested_in_order before g.met.E.Entry.transitive (held l.self) l.at c.in-Some.child e rests (l.invariant.2 s);
       room = l.invariant.0;
     }
 
@@ -50,15 +50,15 @@ swap-requires g c =
     let l = c.loop-child in
     let e = c.in-Some.ensures in
     record {
-      a-in-bounds = held-within l.self l.at (omega arith);
-      b-in-bounds = held-within l.self c.in-Some.child e.1;
+      a-in-bounds = held_within l.self l.at (omega arith);
+      b-in-bounds = held_within l.self c.in-Some.child e.1;
     }
 
 pub loop-child-smaller : goal.loop-child-smaller
 loop-child-smaller g c =
     let l = c.loop-child in
     let e = c.in-Some.ensures in
-    let w = held-within l.self c.in-Some.child e.1 in
+    let w = held_within l.self c.in-Some.child e.1 in
     omega (arith, c.swap.ensures.len)
 
 pub loop-child-preserved : goal.loop-child-preserved
@@ -73,11 +73,11 @@ loop-child-preserved g c =
     let y = c.index-self-child.result in
     let h = c.if-no-later.ensures in
     let t : before x y ≡ false = cc in
-    let is = held-exchanged l.self c.swap.new.self l.at child x (omega arith) e.1 (c.swap.ensures.by_index.3 x) in
-    let later = held-compared l.self before false l.at child x y (omega arith) e.1 c.index-self-at.is c.index-self-child.is t in (
+    let is = held_exchanged l.self c.swap.new.self l.at child x (omega arith) e.1 (c.swap.ensures.by_index.3 x) in
+    let later = held_compared l.self before false l.at child x y (omega arith) e.1 c.index-self-at.is c.index-self-child.is t in (
       c.swap.ensures.len ∙ l.invariant.0,
       IsPermutation-trans _ xs zs l.invariant.1 (IsPermutation-swap xs zs l.at child (omega arith) e.1 is),
-      λ s. child-may-sink before g.met.E.Entry.total xs zs l.at child e is later (l.invariant.2 s),
+      λ s. child_may_sink before g.met.E.Entry.total xs zs l.at child e is later (l.invariant.2 s),
     )
 
 pub returns : goal.returns
@@ -85,6 +85,6 @@ returns g c =
     let l = c.loop-child in
     record {
       held = l.invariant.1;
-      order = λ s. childless-in-order g.E.Entry.before (held l.self) l.at c.in-default.ensures (l.invariant.2 s);
+      order = λ s. childless_in_order g.E.Entry.before (held l.self) l.at c.in-default.ensures (l.invariant.2 s);
       room = l.invariant.0;
     }

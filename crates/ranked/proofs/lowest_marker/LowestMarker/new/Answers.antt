@@ -1,6 +1,6 @@
 use Rattle.std.proofs.Common.{rules}
 use Rattle.ranked.specs.Orders.{Marked, marker_before}
-use Rattle.ranked.proofs.Entries.{nothing-ordered, each_none}
+use Rattle.ranked.proofs.Entries.{nothing_ordered, each_none}
 use Rattle.ranked.proofs.Markers.{blank}
 use Rattle.ranked.proofs.Places.{none_inside}
 use Rattle.ranked.proofs.lowest_marker.LowestMarker.new.Goals as goal
@@ -8,4 +8,4 @@ use Rattle.ranked.proofs.lowest_marker.LowestMarker.new.Goals as goal
 pub invariant-of-result : goal.invariant-of-result
 invariant-of-result c =
     let none = c.new.ensures.held in
-    (search rules, (∣ nothing-ordered marker_before _ none ∣₁, (none_inside (λ e. e.place) _ none, (each_none marker_before (Marked c.args.markers.now) blank _ none, tt))))
+    (search rules, (∣ nothing_ordered marker_before _ none ∣₁, (none_inside (λ e. e.place) _ none, (each_none marker_before (Marked c.args.markers.now) blank _ none, tt))))

@@ -5,7 +5,7 @@ use Rattle.board.proofs.First.{refusal, acceptance}
 use Rattle.board.specs.Questions.{first_no, answer}
 use Rattle.sheet.proofs.Exits.{refused_through}
 use Rattle.layout.proofs.Theorems.{reads}
-use Rattle.sheet.proofs.Sheets.{header_refused, records-refused, records-inside, end-decides}
+use Rattle.sheet.proofs.Sheets.{header_refused, records_refused, records_inside, end_decides}
 use Rattle.bits.specs.Bits.{bits_of}
 use Rattle.sheet.specs.Header.{stated_of}
 use Rattle.layout.specs.Questions.{end_questions}
@@ -28,7 +28,7 @@ returns-in-err-check-records c =
     let p = err_from_is_err_and c.from-residual-in-err-check-records.result c.from-residual-in-err-check-records.ensures.1 in
     let a =
     refused_through board_of _ _ _ _ _ p.1 p.2
-    (records-refused c.args.bytes.now c.new-reader.result.bytes.now c.args.entries c.new-reader.ensures.bytes
+    (records_refused c.args.bytes.now c.new-reader.result.bytes.now c.args.entries c.new-reader.ensures.bytes
     c.read-header.new.reader.bytes.now (stated_of c.in-ok-header.header) c.in-ok-header.ensures.answer
     c.in-ok-header.ensures.bytes c.in-err-check-records.field-0.0 c.in-err-check-records.ensures.answer)
     in
@@ -36,7 +36,7 @@ returns-in-err-check-records c =
 
 pub check-end-requires : goal.check-end-requires
 check-end-requires c =
-    records-inside c.args.bytes.now c.new-reader.result.bytes.now c.args.entries c.new-reader.ensures.bytes
+    records_inside c.args.bytes.now c.new-reader.result.bytes.now c.args.entries c.new-reader.ensures.bytes
     c.read-header.new.reader.bytes.now (stated_of c.in-ok-header.header) c.in-ok-header.ensures.answer
     c.in-ok-header.ensures.bytes c.in-ok-check-records.ensures.answer
 
@@ -44,7 +44,7 @@ pub returns-in-err-check-end : goal.returns-in-err-check-end
 returns-in-err-check-end c =
     let p = err_from_is_err_and c.from-residual-in-err-check-end.result c.from-residual-in-err-check-end.ensures.1 in
     let e =
-    end-decides c.args.bytes.now c.new-reader.result.bytes.now c.args.entries c.new-reader.ensures.bytes
+    end_decides c.args.bytes.now c.new-reader.result.bytes.now c.args.entries c.new-reader.ensures.bytes
     c.read-header.new.reader.bytes.now (stated_of c.in-ok-header.header) c.in-ok-header.ensures.answer
     c.in-ok-header.ensures.bytes c.in-ok-check-records.ensures.answer
     in
@@ -59,7 +59,7 @@ returns-in-err-check-end c =
 pub returns : goal.returns
 returns c =
     let e =
-    end-decides c.args.bytes.now c.new-reader.result.bytes.now c.args.entries c.new-reader.ensures.bytes
+    end_decides c.args.bytes.now c.new-reader.result.bytes.now c.args.entries c.new-reader.ensures.bytes
     c.read-header.new.reader.bytes.now (stated_of c.in-ok-header.header) c.in-ok-header.ensures.answer
     c.in-ok-header.ensures.bytes c.in-ok-check-records.ensures.answer
     in

@@ -1,7 +1,7 @@
 use Rattle.std.proofs.Common.{◌-◌, get_or, sym, ap, ◌∙◌, arith}
 use Rattle.picker.specs.Arrays.{pile}
 use Rattle.picker.specs.Queues.{stack, head_of, tail_of}
-use Rattle.picker.proofs.Listed.{took_none, took-some, unmoved, left_inside}
+use Rattle.picker.proofs.Listed.{took_none, took_some, unmoved, left_inside}
 use Rattle.picker.proofs.Piles.{pile_take}
 use Rattle.picker.proofs.newest_first.methods.NewestFirstPicker.take.Goals as goal
 
@@ -22,4 +22,4 @@ pub returns : goal.returns
 returns c =
     let p = c.args.self.now in
     let split = pile_take p.places p.waiting (omega arith) in
-    record { took = took-some (stack p) 128 p.count (get_or p.places (p.waiting - 1) 0) _ c.saturating-add-self.result (unmoved (stack p) _ (sym split)) c.saturating-add-self.ensures; newest = sym (ap head_of split); rest = sym (ap tail_of split) }
+    record { took = took_some (stack p) 128 p.count (get_or p.places (p.waiting - 1) 0) _ c.saturating-add-self.result (unmoved (stack p) _ (sym split)) c.saturating-add-self.ensures; newest = sym (ap head_of split); rest = sym (ap tail_of split) }

@@ -1,13 +1,13 @@
 use Rattle.std.proofs.Common.{refl, arith, rules}
 use Rattle.picker.specs.Queues.{queue}
-use Rattle.picker.proofs.Listed.{put-unknown, put_full, put-accepted, joined_last, joined_inside}
+use Rattle.picker.proofs.Listed.{put_unknown, put_full, put_accepted, joined_last, joined_inside}
 use Rattle.picker.proofs.Rings.{length_ring, ring_put}
 use Rattle.picker.proofs.oldest_first.methods.OldestFirstPicker.put.Goals as goal
 
 pub returns-then-place-ge-PLACES : goal.returns-then-place-ge-PLACES
 returns-then-place-ge-PLACES c =
     let p = c.args.self.now in
-    let told = put-unknown (queue p) 128 p.count c.args.place c.if-place-ge-PLACES.true in
+    let told = put_unknown (queue p) 128 p.count c.args.place c.if-place-ge-PLACES.true in
     record { answer = told.0; meaning = told.1; queue = refl }
 
 pub returns-then-self-ge-ROOM : goal.returns-then-self-ge-ROOM
@@ -28,5 +28,5 @@ returns c =
     let p = c.args.self.now in
     let long = length_ring p.places p.first p.waiting in
     let last = ring_put p.places p.first p.waiting c.args.place (search rules) c.if-self-ge-ROOM.false in
-    let told = put-accepted (queue p) 128 p.count c.args.place _ p.inside c.if-place-ge-PLACES.false (omega arith) (joined_last (queue p) _ c.args.place last) in
+    let told = put_accepted (queue p) 128 p.count c.args.place _ p.inside c.if-place-ge-PLACES.false (omega arith) (joined_last (queue p) _ c.args.place last) in
     record { answer = told.0; meaning = told.1; queue = last }

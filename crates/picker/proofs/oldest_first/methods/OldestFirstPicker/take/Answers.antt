@@ -1,7 +1,7 @@
 use Rattle.std.proofs.Common.{get_or, sym, ap, ◌∙◌, arith}
 use Rattle.picker.specs.Arrays.{ring}
 use Rattle.picker.specs.Queues.{queue, head_of, tail_of}
-use Rattle.picker.proofs.Listed.{took_none, took-some, unmoved, left_inside}
+use Rattle.picker.proofs.Listed.{took_none, took_some, unmoved, left_inside}
 use Rattle.picker.proofs.Rings.{ring_take}
 use Rattle.picker.proofs.oldest_first.methods.OldestFirstPicker.take.Goals as goal
 
@@ -22,4 +22,4 @@ pub returns : goal.returns
 returns c =
     let p = c.args.self.now in
     let split = ring_take p.places p.first p.waiting p.first_inside (omega arith) in
-    record { took = took-some (queue p) 128 p.count (get_or p.places p.first 0) _ c.saturating-add-self.result (unmoved (queue p) _ (sym split)) c.saturating-add-self.ensures; oldest = sym (ap head_of split); rest = sym (ap tail_of split) }
+    record { took = took_some (queue p) 128 p.count (get_or p.places p.first 0) _ c.saturating-add-self.result (unmoved (queue p) _ (sym split)) c.saturating-add-self.ensures; oldest = sym (ap head_of split); rest = sym (ap tail_of split) }

@@ -1,6 +1,6 @@
 use Rattle.std.proofs.Common.{rules}
 use Rattle.ranked.specs.Orders.{Marked, marker_before}
-use Rattle.ranked.proofs.Entries.{nothing-ordered, each_none}
+use Rattle.ranked.proofs.Entries.{nothing_ordered, each_none}
 use Rattle.ranked.proofs.Markers.{blank}
 use Rattle.ranked.proofs.Places.{none_inside}
 use Rattle.ranked.proofs.lowest_marker.methods.LowestMarkerPicker.empty.Goals as goal
@@ -8,4 +8,4 @@ use Rattle.ranked.proofs.lowest_marker.methods.LowestMarkerPicker.empty.Goals as
 pub invariant-of-self : goal.invariant-of-self
 invariant-of-self c =
     let none = c.clear.ensures.held in
-    (search rules, (∣ nothing-ordered marker_before _ none ∣₁, (none_inside (λ e. e.place) _ none, (each_none marker_before (Marked c.args.self.now.markers.now) blank _ none, tt))))
+    (search rules, (∣ nothing_ordered marker_before _ none ∣₁, (none_inside (λ e. e.place) _ none, (each_none marker_before (Marked c.args.self.now.markers.now) blank _ none, tt))))

@@ -1,9 +1,9 @@
 use Rattle.std.proofs.Common.{map, refl, ap, arith}
 use Rattle.heap.specs.Held.{held, room}
 use Rattle.ranked.specs.Orders.{Marked, marker_before}
-use Rattle.ranked.proofs.Entries.{popped-ordered, popped-first, left-each, popped-each}
+use Rattle.ranked.proofs.Entries.{popped_ordered, popped_first, left_each, popped_each}
 use Rattle.ranked.proofs.Markers.{blank, lowest_from_first}
-use Rattle.ranked.proofs.Places.{places-shuffled, popped-inside, took-nothing, took-popped}
+use Rattle.ranked.proofs.Places.{places_shuffled, popped_inside, took_nothing, took_popped}
 use Rattle.ranked.proofs.lowest_marker.methods.LowestMarkerPicker.take.Goals as goal
 
 pub invariant-of-self : goal.invariant-of-self
@@ -11,20 +11,20 @@ invariant-of-self c =
     let p = c.args.self.now in
     let es = held p.heap in
     let told = c.pop.ensures.held in
-    (p.stops, (popped-ordered marker_before es _ c.pop.result told p.ordered, (popped-inside (λ e. e.place) marker_before es _ c.pop.result told p.inside, (popped-each marker_before (Marked p.markers.now) blank es _ c.pop.result told p.marked, tt))))
+    (p.stops, (popped_ordered marker_before es _ c.pop.result told p.ordered, (popped_inside (λ e. e.place) marker_before es _ c.pop.result told p.inside, (popped_each marker_before (Marked p.markers.now) blank es _ c.pop.result told p.marked, tt))))
 
 pub invariant-of-self-2 : goal.invariant-of-self-2
 invariant-of-self-2 c =
     let p = c.args.self.now in
     let es = held p.heap in
     let told = c.pop.ensures.held in
-    (omega arith, (popped-ordered marker_before es _ c.pop.result told p.ordered, (popped-inside (λ e. e.place) marker_before es _ c.pop.result told p.inside, (popped-each marker_before (Marked p.markers.now) blank es _ c.pop.result told p.marked, tt))))
+    (omega arith, (popped_ordered marker_before es _ c.pop.result told p.ordered, (popped_inside (λ e. e.place) marker_before es _ c.pop.result told p.inside, (popped_each marker_before (Marked p.markers.now) blank es _ c.pop.result told p.marked, tt))))
 
 pub returns-in-err-entry : goal.returns-in-err-entry
 returns-in-err-entry c =
     let p = c.args.self.now in
     let told = c.in-err-entry.ensures in
-    rw c.from-residual.ensures record { took = took-nothing (λ e. e.place) (held p.heap) (held c.pop.new.self) (room p.heap) (room c.pop.new.self) p.count told.room told.held.0 told.held.1; lowest = (ap (map (λ e. e.place)) told.held.0, ap (map (λ e. e.place)) told.held.1); markers = refl }
+    rw c.from-residual.ensures record { took = took_nothing (λ e. e.place) (held p.heap) (held c.pop.new.self) (room p.heap) (room c.pop.new.self) p.count told.room told.held.0 told.held.1; lowest = (ap (map (λ e. e.place)) told.held.0, ap (map (λ e. e.place)) told.held.1); markers = refl }
 
 pub returns : goal.returns
 returns c =
@@ -32,6 +32,6 @@ returns c =
     let told = c.in-ok-entry.ensures in
     let e = c.in-ok-entry.entry in
     let es = held p.heap in
-    let mine = (left-each marker_before (Marked p.markers.now) blank es _ e told.held.0 p.marked).0 in
-    let first = popped-first marker_before blank e es _ told.held p.ordered in
-    record { took = took-popped (λ e. e.place) (held p.heap) (held c.pop.new.self) (room p.heap) (room c.pop.new.self) p.count told.room e c.saturating-add-self.result told.held.0 c.saturating-add-self.ensures; lowest = (places-shuffled (λ e. e.place) _ _ told.held.0, lowest_from_first p.markers.now e es p.marked mine first); markers = refl }
+    let mine = (left_each marker_before (Marked p.markers.now) blank es _ e told.held.0 p.marked).0 in
+    let first = popped_first marker_before blank e es _ told.held p.ordered in
+    record { took = took_popped (λ e. e.place) (held p.heap) (held c.pop.new.self) (room p.heap) (room c.pop.new.self) p.count told.room e c.saturating-add-self.result told.held.0 c.saturating-add-self.ensures; lowest = (places_shuffled (λ e. e.place) _ _ told.held.0, lowest_from_first p.markers.now e es p.marked mine first); markers = refl }
