@@ -11,4 +11,4 @@ loop-place-smaller g c =
     omega arith
 
 pub returns : goal.returns
-returns g c = let took = c.in-default.ensures.took in ap (λ (m : Meaning). m.waits) took.1 ∙ took.0
+returns g c = let took = c.in_default.ensures.took in ap (λ (m : Meaning). m.waits) took.1 ∙ took.0

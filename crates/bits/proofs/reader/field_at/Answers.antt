@@ -10,8 +10,8 @@ use Rattle.bits.proofs.reader.field_at.Goals as goal
 pub returns : goal.returns
 returns c =
     let e =
-    window_cut c.args.bytes.now c.args.start c.width-width.result c.byte-at-high.result c.byte-at-middle.result
-    c.byte-at-low.result c.byte-at-high.ensures c.byte-at-middle.ensures c.byte-at-low.ensures (search) (search)
+    window_cut c.args.bytes.now c.args.start c.width-width.result c.byte_at-high.result c.byte_at-middle.result
+    c.byte_at-low.result c.byte_at-high.ensures c.byte_at-middle.ensures c.byte_at-low.ensures (search) (search)
     (rw c.width-width.ensures (width_le c.args.field))
     ∙ ap (field_at (bits_of c.args.bytes.now) c.args.start) c.width-width.ensures
     in

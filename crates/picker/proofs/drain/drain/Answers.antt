@@ -18,4 +18,4 @@ loop-preserved g c = drained_again _ _ _ (inside g c) c.in-Some.ensures.took ∙
 
 pub returns : goal.returns
 returns g c =
-    record { answer = c.waiting-waiting.ensures; meaning = drained_now _ _ (g.P.Picker.lawful.stops c.loop.picker) c.in-default.ensures.took ∙ c.loop.invariant }
+    record { answer = c.waiting-waiting.ensures; meaning = drained_now _ _ (g.P.Picker.lawful.stops c.loop.picker) c.in_default.ensures.took ∙ c.loop.invariant }

@@ -8,13 +8,13 @@ use Rattle.sheet.proofs.reading.check_end.Goals as goal
 pub returns-then-bytes-end : goal.returns-then-bytes-end
 returns-then-bytes-end c =
     ap (λ x. answer x tt)
-    (sym (trailing c.args.bytes.now c.args.routes c.record-start-end.result c.record-start-end.ensures (omega arith) (omega arith)))
+    (sym (trailing c.args.bytes.now c.args.routes c.record_start-end.result c.record_start-end.ensures (omega arith) (omega arith)))
 
 pub returns-then-end-eq0 : goal.returns-then-end-eq0
 returns-then-end-eq0 c =
     ap (λ x. answer x tt)
     (sym
-    (whole_bytes c.args.bytes.now c.args.routes c.record-start-end.result c.record-start-end.ensures (omega arith)
+    (whole_bytes c.args.bytes.now c.args.routes c.record_start-end.result c.record_start-end.ensures (omega arith)
     c.if-bytes-end.false c.if-end-eq0.true))
 
 -- a shift by at most 7 within a byte
@@ -25,12 +25,12 @@ pub returns-then-rest-eq0 : goal.returns-then-rest-eq0
 returns-then-rest-eq0 c =
     ap (λ x. answer x tt)
     (sym
-    (padded c.args.bytes.now c.args.routes c.record-start-end.result c.record-start-end.ensures (omega arith) c.if-bytes-end.false
-    c.if-end-eq0.false _ (power c.record-start-end.result c.if-end-eq0.false) c.if-rest-eq0.true))
+    (padded c.args.bytes.now c.args.routes c.record_start-end.result c.record_start-end.ensures (omega arith) c.if-bytes-end.false
+    c.if-end-eq0.false _ (power c.record_start-end.result c.if-end-eq0.false) c.if-rest-eq0.true))
 
 pub returns : goal.returns
 returns c =
     ap (λ x. answer x tt)
     (sym
-    (unpadded c.args.bytes.now c.args.routes c.record-start-end.result c.record-start-end.ensures (omega arith) c.if-bytes-end.false
-    c.if-end-eq0.false _ (power c.record-start-end.result c.if-end-eq0.false) (omega (arith, c.if-rest-eq0.false))))
+    (unpadded c.args.bytes.now c.args.routes c.record_start-end.result c.record_start-end.ensures (omega arith) c.if-bytes-end.false
+    c.if-end-eq0.false _ (power c.record_start-end.result c.if-end-eq0.false) (omega (arith, c.if-rest-eq0.false))))

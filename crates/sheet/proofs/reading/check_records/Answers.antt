@@ -7,22 +7,22 @@ use Rattle.sheet.proofs.Exits.{refused_by}
 use Rattle.sheet.proofs.Records.{records_stop, records_on, records_end}
 use Rattle.sheet.proofs.reading.check_records.Goals as goal
 
-pub returns-in-err-check-record : goal.returns-in-err-check-record
-returns-in-err-check-record c =
-    let p = err_from_is_err_and c.from-residual.result c.from-residual.ensures.1 in
+pub returns-in_err-check_record : goal.returns-in_err-check_record
+returns-in_err-check_record c =
+    let p = err_from_is_err_and c.from_residual.result c.from_residual.ensures.1 in
     let i = c.loop-route.invariant in
     record {
       answer =
           refused_by _ _ _ _ tt p.1 p.2
           (records_stop c.loop-route.reader.bytes.now c.args.reader.now.bytes.now (shape_of c.args.header.now.frame) c.loop-route.route
-          c.args.header.now.routes _ i.1 i.2 c.loop-route-test.true c.in-err-check-record.field-0.0
-          c.in-err-check-record.ensures.answer);
+          c.args.header.now.routes _ i.1 i.2 c.loop-route-test.true c.in_err-check_record.field-0.0
+          c.in_err-check_record.ensures.answer);
     }
 
 pub loop-route-preserved : goal.loop-route-preserved
 loop-route-preserved c =
     let i = c.loop-route.invariant in
-    let a = c.in-ok-check-record.ensures in (
+    let a = c.in_ok-check_record.ensures in (
       a.position,
       a.bytes ∙ i.1,
       records_on c.loop-route.reader.bytes.now c.args.reader.now.bytes.now (shape_of c.args.header.now.frame) c.loop-route.route

@@ -10,8 +10,8 @@ use Rattle.sheet.proofs.reading.order_route.Goals as goal
 
 pub returns-in-Err : goal.returns-in-Err
 returns-in-Err c =
-    let narrow : to_z w16 (of_z w16 c.widen.result) ≡ c.widen.result = to_z-of_z w16 c.widen.result (record { sfits = c.widen.type-inv }) in
-    let wide : SFits w32 c.widen.result = record { sfits = omega (arith, c.widen.type-inv) } in
+    let narrow : to_z w16 (of_z w16 c.widen.result) ≡ c.widen.result = to_z-of_z w16 c.widen.result (record { sfits = c.widen.type_inv }) in
+    let wide : SFits w32 c.widen.result = record { sfits = omega (arith, c.widen.type_inv) } in
     let floor : to_z w32 (of_z w32 (to_z w16 (of_z w16 c.widen.result))) ≡ widened c.args.floor =
     ap (λ x. to_z w32 (of_z w32 x)) narrow ∙ to_z-of_z w32 c.widen.result wide ∙ c.widen.ensures ∙ ap widened (mod-eq_of_lt c.requires)
     in

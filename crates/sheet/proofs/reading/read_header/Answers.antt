@@ -9,79 +9,79 @@ use Rattle.sheet.proofs.Headers.{fields_refused, frame_refused, frame_accepted, 
 use Rattle.sheet.specs.Header.{stated_of, stated_header}
 use Rattle.sheet.proofs.reading.read_header.Goals as goal
 
-pub returns-in-err-places : goal.returns-in-err-places
-returns-in-err-places c =
-    let p = err_from_is_err_and c.from-residual.result c.from-residual.ensures.1 in
+pub returns-in_err-places : goal.returns-in_err-places
+returns-in_err-places c =
+    let p = err_from_is_err_and c.from_residual.result c.from_residual.ensures.1 in
     record {
       answer =
           refused_through stated_of _ _ _ _ _ p.1 p.2
           (fields_refused c.args.reader.now.bytes.now c.args.reader.now.position c.args.entries c.requires
-          c.in-err-places.field-0.0 c.in-err-places.ensures.answer);
+          c.in_err-places.field-0.0 c.in_err-places.ensures.answer);
       position = rw p.1 tt;
-      bytes = c.in-err-places.ensures.bytes;
+      bytes = c.in_err-places.ensures.bytes;
     }
 
-pub returns-in-err-frame : goal.returns-in-err-frame
-returns-in-err-frame c =
-    let p = err_from_is_err_and c.from-residual-in-err-frame.result c.from-residual-in-err-frame.ensures.1 in
+pub returns-in_err-frame : goal.returns-in_err-frame
+returns-in_err-frame c =
+    let p = err_from_is_err_and c.from_residual-in_err-frame.result c.from_residual-in_err-frame.ensures.1 in
     let e =
     frame_refused c.args.reader.now.bytes.now c.args.reader.now.position c.args.entries c.requires
-    c.in-ok-places.places c.in-ok-places.home c.in-ok-places.port
-    c.in-ok-places.routes c.in-ok-places.ensures.answer c.in-err-frame.field-0.0
-    c.in-err-frame.ensures.answer
+    c.in_ok-places.places c.in_ok-places.home c.in_ok-places.port
+    c.in_ok-places.routes c.in_ok-places.ensures.answer c.in_err-frame.field-0.0
+    c.in_err-frame.ensures.answer
     in
     record {
       answer = refused_through stated_of _ _ _ _ _ p.1 p.2 e;
       position = rw p.1 tt;
-      bytes = c.in-ok-places.ensures.bytes;
+      bytes = c.in_ok-places.ensures.bytes;
     }
 
-pub returns-then-routes-gt-ROUTE-LIMIT : goal.returns-then-routes-gt-ROUTE-LIMIT
-returns-then-routes-gt-ROUTE-LIMIT c =
+pub returns-then-routes-gt-ROUTE_LIMIT : goal.returns-then-routes-gt-ROUTE_LIMIT
+returns-then-routes-gt-ROUTE_LIMIT c =
     let e =
     over_limit c.args.reader.now.bytes.now c.args.reader.now.position c.args.entries c.requires
-    c.in-ok-places.places c.in-ok-places.home c.in-ok-places.port
-    c.in-ok-places.routes c.in-ok-places.ensures.answer
-    (shape_of c.in-ok-frame.frame) c.in-ok-frame.ensures.answer (omega arith)
+    c.in_ok-places.places c.in_ok-places.home c.in_ok-places.port
+    c.in_ok-places.routes c.in_ok-places.ensures.answer
+    (shape_of c.in_ok-frame.frame) c.in_ok-frame.ensures.answer (omega arith)
     in
     record {
       answer = ap (λ z. answer z (stated_header (bits_of c.args.reader.now.bytes.now))) (sym e);
       position = tt;
-      bytes = c.in-ok-places.ensures.bytes;
+      bytes = c.in_ok-places.ensures.bytes;
     }
 
 pub returns-then-routes-entries : goal.returns-then-routes-entries
 returns-then-routes-entries c =
     let e =
     over_entries c.args.reader.now.bytes.now c.args.reader.now.position c.args.entries c.requires
-    c.in-ok-places.places c.in-ok-places.home c.in-ok-places.port
-    c.in-ok-places.routes c.in-ok-places.ensures.answer
-    (shape_of c.in-ok-frame.frame) c.in-ok-frame.ensures.answer (omega arith) (omega arith)
+    c.in_ok-places.places c.in_ok-places.home c.in_ok-places.port
+    c.in_ok-places.routes c.in_ok-places.ensures.answer
+    (shape_of c.in_ok-frame.frame) c.in_ok-frame.ensures.answer (omega arith) (omega arith)
     in
     record {
       answer = ap (λ z. answer z (stated_header (bits_of c.args.reader.now.bytes.now))) (sym e);
       position = tt;
-      bytes = c.in-ok-places.ensures.bytes;
+      bytes = c.in_ok-places.ensures.bytes;
     }
 
 pub returns : goal.returns
 returns c =
     let a =
     frame_accepted c.args.reader.now.bytes.now c.args.reader.now.position c.args.entries c.requires
-    c.in-ok-places.places c.in-ok-places.home c.in-ok-places.port
-    c.in-ok-places.routes c.in-ok-places.ensures.answer
-    (shape_of c.in-ok-frame.frame) c.in-ok-frame.ensures.answer
+    c.in_ok-places.places c.in_ok-places.home c.in_ok-places.port
+    c.in_ok-places.routes c.in_ok-places.ensures.answer
+    (shape_of c.in_ok-frame.frame) c.in_ok-frame.ensures.answer
     in
     let e =
     within_limits c.args.reader.now.bytes.now c.args.reader.now.position c.args.entries c.requires
-    c.in-ok-places.places c.in-ok-places.home c.in-ok-places.port
-    c.in-ok-places.routes c.in-ok-places.ensures.answer
-    (shape_of c.in-ok-frame.frame) c.in-ok-frame.ensures.answer (omega arith) (omega arith)
+    c.in_ok-places.places c.in_ok-places.home c.in_ok-places.port
+    c.in_ok-places.routes c.in_ok-places.ensures.answer
+    (shape_of c.in_ok-frame.frame) c.in_ok-frame.ensures.answer (omega arith) (omega arith)
     in
     record {
       answer =
           ap₂ (λ s n. Ok (record { shape = s; routes = n })) a.1 a.2
           ∙ ap (λ z. answer z (stated_header (bits_of c.args.reader.now.bytes.now))) (sym e);
-      position = omega (arith, c.requires, c.in-ok-places.ensures.position);
-      bytes = c.in-ok-places.ensures.bytes;
+      position = omega (arith, c.requires, c.in_ok-places.ensures.position);
+      bytes = c.in_ok-places.ensures.bytes;
     }

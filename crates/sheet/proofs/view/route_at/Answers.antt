@@ -8,11 +8,11 @@ use Rattle.sheet.proofs.view.route_at.Goals as goal
 pub returns : goal.returns
 unfolding route_at
 returns c =
-    let f : to_z w16 (of_z w16 c.widen.result) ≡ widened c.field-at-floor.result =
-    to_z-of_z w16 c.widen.result (record { sfits = c.widen.type-inv }) ∙ c.widen.ensures
-    ∙ ap widened (mod-eq_of_lt c.field-at-floor.ensures.bound)
+    let f : to_z w16 (of_z w16 c.widen.result) ≡ widened c.field_at-floor.result =
+    to_z-of_z w16 c.widen.result (record { sfits = c.widen.type_inv }) ∙ c.widen.ensures
+    ∙ ap widened (mod-eq_of_lt c.field_at-floor.ensures.bound)
     in
-    let g : to_z w16 c.field-at-ceiling.result ≡ pos c.field-at-ceiling.result =
-    to_z_pos w16 c.field-at-ceiling.result (omega (arith, c.field-at-ceiling.ensures.bound))
+    let g : to_z w16 c.field_at-ceiling.result ≡ pos c.field_at-ceiling.result =
+    to_z_pos w16 c.field_at-ceiling.result (omega (arith, c.field_at-ceiling.ensures.bound))
     in
     cc

@@ -23,7 +23,7 @@ loop-k-preserved c =
     let rs : List Route = c.args.routes.now in
     let k : ℕ = c.loop-k.k in
     let d = drop_more rs k blank c.loop-k-test.true in
-    let f = routes_more s k (get_or rs k blank) (drop (k + 1) rs) c.in-default.ensures in
+    let f = routes_more s k (get_or rs k blank) (drop (k + 1) rs) c.in_default.ensures in
     ap (λ (n : ℕ). first_no (routes_questions s n (drop (k + 1) rs))) (add-one k) ∙ sym f
     ∙ ap (λ (l : List Route). first_no (routes_questions s k l)) (sym d)
     ∙ c.loop-k.invariant

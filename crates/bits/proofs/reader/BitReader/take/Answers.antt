@@ -4,12 +4,12 @@ use Rattle.bits.proofs.Taken.{taken_none, taken_some}
 use Rattle.bits.specs.Fields.{width}
 use Rattle.bits.proofs.reader.BitReader.take.Goals as goal
 
-pub returns-in-default : goal.returns-in-default
-returns-in-default c =
+pub returns-in_default : goal.returns-in_default
+returns-in_default c =
     record {
       answer =
-          taken_none c.args.self.now.bytes.now c.args.self.now.position (width c.args.field) c.end-of.result
-          c.end-of.ensures c.in-default.is;
+          taken_none c.args.self.now.bytes.now c.args.self.now.position (width c.args.field) c.end_of.result
+          c.end_of.ensures c.in_default.is;
       bound = tt;
       position = search;
       bytes = search;
@@ -18,7 +18,7 @@ returns-in-default c =
 pub returns : goal.returns
 returns c =
     let t =
-    taken_some c.args.self.now.bytes.now c.args.self.now.position (width c.args.field) c.end-of.result
-    c.end-of.ensures c.in-Some.end c.in-Some.is
+    taken_some c.args.self.now.bytes.now c.args.self.now.position (width c.args.field) c.end_of.result
+    c.end_of.ensures c.in-Some.end c.in-Some.is
     in
-    record { answer = ap Ok c.field-at.ensures.value ∙ t.1; bound = c.field-at.ensures.bound; position = t.0; bytes = search }
+    record { answer = ap Ok c.field_at.ensures.value ∙ t.1; bound = c.field_at.ensures.bound; position = t.0; bytes = search }

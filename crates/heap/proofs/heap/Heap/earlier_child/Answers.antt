@@ -6,8 +6,8 @@ use Rattle.heap.proofs.Moves.{held_within, held_compared}
 use Rattle.heap.proofs.Orders.{other_way}
 use Rattle.heap.proofs.heap.Heap.earlier_child.Goals as goal
 
-pub offset-bounds-entries-left : goal.offset-bounds-entries-left
-offset-bounds-entries-left g c =
+pub offset_bounds-entries-left : goal.offset_bounds-entries-left
+offset_bounds-entries-left g c =
     let h = held_within c.args.self.now (2 * c.args.at + 1) (omega arith) in
     search rules
 
@@ -15,8 +15,8 @@ pub bounds-entries-left : goal.bounds-entries-left
 bounds-entries-left g c =
     held_within c.args.self.now (2 * c.args.at + 1) (omega arith)
 
-pub offset-bounds-entries-right : goal.offset-bounds-entries-right
-offset-bounds-entries-right g c =
+pub offset_bounds-entries-right : goal.offset_bounds-entries-right
+offset_bounds-entries-right g c =
     let h = held_within c.args.self.now (2 * c.args.at + 1 + 1) (omega arith) in
     search rules
 
@@ -31,25 +31,25 @@ returns-then-right-len g c =
     (λ k a l p n. omega arith)
     (λ d l. absurd (omega arith))
 
-pub returns-then-no-later : goal.returns-then-no-later
-returns-then-no-later g c =
+pub returns-then-no_later : goal.returns-then-no_later
+returns-then-no_later g c =
     let at = c.args.at in
     let before = g.E.Entry.before in
     let x = c.index-entries-left.result in
     let y = c.index-entries-right.result in
-    let h = c.if-no-later.ensures in
+    let h = c.if-no_later.ensures in
     let t : before x y ≡ true = cc in
     earlier_child before g.met.E.Entry.total (held c.args.self.now) at (2 * at + 1) (2 * at + 1 + 1) (omega arith) (omega arith) (omega arith)
     (λ k a l p n. omega arith)
     (λ d l. held_compared c.args.self.now before true _ _ x y (omega arith) l c.index-entries-left.is c.index-entries-right.is t d)
 
-pub returns-else-no-later : goal.returns-else-no-later
-returns-else-no-later g c =
+pub returns-else-no_later : goal.returns-else-no_later
+returns-else-no_later g c =
     let at = c.args.at in
     let before = g.E.Entry.before in
     let x = c.index-entries-left.result in
     let y = c.index-entries-right.result in
-    let h = c.if-no-later.ensures in
+    let h = c.if-no_later.ensures in
     let t : before x y ≡ false = cc in
     earlier_child before g.met.E.Entry.total (held c.args.self.now) at (2 * at + 1 + 1) (2 * at + 1) (omega arith) (omega arith) (omega arith)
     (λ k a l p n. omega arith)

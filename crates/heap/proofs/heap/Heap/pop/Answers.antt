@@ -18,8 +18,8 @@ pub bounds-self-0 : goal.bounds-self-0
 bounds-self-0 g c =
     held_within c.args.self.now 0 (omega arith)
 
-pub offset-bounds-self-len : goal.offset-bounds-self-len
-offset-bounds-self-len g c =
+pub offset_bounds-self-len : goal.offset_bounds-self-len
+offset_bounds-self-len g c =
     let h = held_within c.args.self.now (c.len-len.result - 1) (omega arith) in
     search rules
 
@@ -39,7 +39,7 @@ returns g c =
     let len = c.len-len.result in
     let x = get_or h.entries.now 0 c.index-self-0.result in
     let y = get_or h.entries.now (len - 1) c.index-self-len.result in
-    let told = c.sift-down.ensures in
+    let told = c.sift_down.ensures in
     let read : x ≡ get_or h.entries.now 0 x = cc in
     let first = held_read h 0 x (omega arith) read in
     let read-last : y ≡ get_or h.entries.now (len - 1) y = cc in

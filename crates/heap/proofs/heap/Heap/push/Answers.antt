@@ -8,8 +8,8 @@ use Rattle.heap.proofs.Moves.{held_pushed, shuffled_push}
 use Rattle.heap.proofs.Rising.{last_may_rise}
 use Rattle.heap.proofs.heap.Heap.push.Goals as goal
 
-pub sift-up-requires : goal.sift-up-requires
-sift-up-requires g c =
+pub sift_up-requires : goal.sift_up-requires
+sift_up-requires g c =
     let h = c.args.self.now in
     let is = held_pushed h c.len-len.result c.args.entry c.len-len.ensures c.if-len-self.false in
     let long = ap length is ∙ length_push (held h) c.args.entry in
@@ -20,7 +20,7 @@ returns g c =
     let h = c.args.self.now in
     let x = c.args.entry in
     let len = c.len-len.result in
-    let told = c.sift-up.ensures in
+    let told = c.sift_up.ensures in
     let is = held_pushed h len x c.len-len.ensures c.if-len-self.false in
     record {
       accepts = sym (lt-ltb _ _ (omega arith));

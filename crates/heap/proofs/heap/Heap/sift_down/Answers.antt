@@ -9,8 +9,8 @@ use Rattle.heap.proofs.heap.Heap.sift_down.Goals as goal
 pub loop-child-init : goal.loop-child-init
 loop-child-init g c = (refl, IsPermutation-refl (held c.args.self.now), λ s. s)
 
-pub offset-bounds-self-at : goal.offset-bounds-self-at
-offset-bounds-self-at g c =
+pub offset_bounds-self-at : goal.offset_bounds-self-at
+offset_bounds-self-at g c =
     let e = c.in-Some.ensures in
     let h = held_within c.loop-child.self c.loop-child.at (omega arith) in
     search rules
@@ -20,8 +20,8 @@ bounds-self-at g c =
     let e = c.in-Some.ensures in
     held_within c.loop-child.self c.loop-child.at (omega arith)
 
-pub offset-bounds-self-child : goal.offset-bounds-self-child
-offset-bounds-self-child g c =
+pub offset_bounds-self-child : goal.offset_bounds-self-child
+offset_bounds-self-child g c =
     let h = held_within c.loop-child.self c.in-Some.child c.in-Some.ensures.1 in
     search rules
 
@@ -29,14 +29,14 @@ pub bounds-self-child : goal.bounds-self-child
 bounds-self-child g c =
     held_within c.loop-child.self c.in-Some.child c.in-Some.ensures.1
 
-pub returns-then-no-later : goal.returns-then-no-later
-returns-then-no-later g c =
+pub returns-then-no_later : goal.returns-then-no_later
+returns-then-no_later g c =
     let l = c.loop-child in
     let e = c.in-Some.ensures in
     let before = g.E.Entry.before in
     let x = c.index-self-at.result in
     let y = c.index-self-child.result in
-    let h = c.if-no-later.ensures in
+    let h = c.if-no_later.ensures in
     let t : before x y ≡ true = cc in
     let rests = held_compared l.self before true l.at c.in-Some.child x y (omega arith) e.1 c.index-self-at.is c.index-self-child.is t in
     record {
@@ -71,7 +71,7 @@ loop-child-preserved g c =
     let zs = take l.self.len c.swap.new.self in
     let x = c.index-self-at.result in
     let y = c.index-self-child.result in
-    let h = c.if-no-later.ensures in
+    let h = c.if-no_later.ensures in
     let t : before x y ≡ false = cc in
     let is = held_exchanged l.self c.swap.new.self l.at child x (omega arith) e.1 (c.swap.ensures.by_index.3 x) in
     let later = held_compared l.self before false l.at child x y (omega arith) e.1 c.index-self-at.is c.index-self-child.is t in (
@@ -85,6 +85,6 @@ returns g c =
     let l = c.loop-child in
     record {
       held = l.invariant.1;
-      order = λ s. childless_in_order g.E.Entry.before (held l.self) l.at c.in-default.ensures (l.invariant.2 s);
+      order = λ s. childless_in_order g.E.Entry.before (held l.self) l.at c.in_default.ensures (l.invariant.2 s);
       room = l.invariant.0;
     }

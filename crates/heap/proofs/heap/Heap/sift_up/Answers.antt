@@ -11,8 +11,8 @@ use Rattle.heap.proofs.heap.Heap.sift_up.Goals as goal
 pub loop-at-init : goal.loop-at-init
 loop-at-init g c = (c.requires, refl, IsPermutation-refl (held c.args.self.now), λ r. r)
 
-pub offset-bounds-self-above : goal.offset-bounds-self-above
-offset-bounds-self-above g c =
+pub offset_bounds-self-above : goal.offset_bounds-self-above
+offset_bounds-self-above g c =
     let i = c.loop-at.invariant.0 in
     let h = held_within c.loop-at.self (parent c.loop-at.at) (omega arith) in
     search rules
@@ -22,21 +22,21 @@ bounds-self-above g c =
     let i = c.loop-at.invariant.0 in
     held_within c.loop-at.self (parent c.loop-at.at) (omega arith)
 
-pub offset-bounds-self-at : goal.offset-bounds-self-at
-offset-bounds-self-at g c =
+pub offset_bounds-self-at : goal.offset_bounds-self-at
+offset_bounds-self-at g c =
     let h = held_within c.loop-at.self c.loop-at.at c.loop-at.invariant.0 in
     search rules
 
 pub bounds-self-at : goal.bounds-self-at
 bounds-self-at g c = held_within c.loop-at.self c.loop-at.at c.loop-at.invariant.0
 
-pub returns-then-no-later : goal.returns-then-no-later
-returns-then-no-later g c =
+pub returns-then-no_later : goal.returns-then-no_later
+returns-then-no_later g c =
     let l = c.loop-at in
     let before = g.E.Entry.before in
     let x = c.index-self-above.result in
     let y = c.index-self-at.result in
-    let h = c.if-no-later.ensures in
+    let h = c.if-no_later.ensures in
     let t : before x y ≡ true = cc in
     let i = l.invariant.0 in
     let rests = held_compared l.self before true (parent l.at) l.at x y (omega arith) i c.index-self-above.is c.index-self-at.is t in
@@ -59,7 +59,7 @@ loop-at-preserved g c =
     let zs = take l.self.len c.swap.new.self in
     let x = c.index-self-above.result in
     let y = c.index-self-at.result in
-    let h = c.if-no-later.ensures in
+    let h = c.if-no_later.ensures in
     let t : before x y ≡ false = cc in
     let i = l.invariant.0 in
     let is = held_exchanged l.self c.swap.new.self (parent l.at) l.at x (omega arith) i (c.swap.ensures.by_index.3 x) in

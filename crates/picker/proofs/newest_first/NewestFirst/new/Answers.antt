@@ -3,9 +3,9 @@ use Rattle.picker.specs.Arrays.{pile}
 use Rattle.picker.proofs.Listed.{as_made, empty_inside}
 use Rattle.picker.proofs.newest_first.NewestFirst.new.Goals as goal
 
-pub invariant-of-result : goal.invariant-of-result
+pub invariant_of-result : goal.invariant_of-result
 unfolding pile
-invariant-of-result c = (search rules, (search rules, (empty_inside _ refl, tt)))
+invariant_of-result c = (search rules, (search rules, (empty_inside _ refl, tt)))
 
 pub returns : goal.returns
 unfolding pile

@@ -3,9 +3,9 @@ use Rattle.picker.specs.Arrays.{ring}
 use Rattle.picker.proofs.Listed.{as_made, empty_inside}
 use Rattle.picker.proofs.oldest_first.OldestFirst.new.Goals as goal
 
-pub invariant-of-result : goal.invariant-of-result
+pub invariant_of-result : goal.invariant_of-result
 unfolding ring
-invariant-of-result c = (search rules, (search rules, (search rules, (empty_inside _ refl, tt))))
+invariant_of-result c = (search rules, (search rules, (search rules, (empty_inside _ refl, tt))))
 
 pub returns : goal.returns
 unfolding ring

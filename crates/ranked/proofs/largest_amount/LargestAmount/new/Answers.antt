@@ -4,7 +4,7 @@ use Rattle.ranked.proofs.Entries.{nothing_ordered}
 use Rattle.ranked.proofs.Places.{none_inside}
 use Rattle.ranked.proofs.largest_amount.LargestAmount.new.Goals as goal
 
-pub invariant-of-result : goal.invariant-of-result
-invariant-of-result c =
+pub invariant_of-result : goal.invariant_of-result
+invariant_of-result c =
     let none = c.new.ensures.held in
     (search rules, (∣ nothing_ordered amount_before _ none ∣₁, (none_inside (λ e. e.place) _ none, tt)))

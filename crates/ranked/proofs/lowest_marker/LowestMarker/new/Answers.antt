@@ -5,7 +5,7 @@ use Rattle.ranked.proofs.Markers.{blank}
 use Rattle.ranked.proofs.Places.{none_inside}
 use Rattle.ranked.proofs.lowest_marker.LowestMarker.new.Goals as goal
 
-pub invariant-of-result : goal.invariant-of-result
-invariant-of-result c =
+pub invariant_of-result : goal.invariant_of-result
+invariant_of-result c =
     let none = c.new.ensures.held in
     (search rules, (∣ nothing_ordered marker_before _ none ∣₁, (none_inside (λ e. e.place) _ none, (each_none marker_before (Marked c.args.markers.now) blank _ none, tt))))

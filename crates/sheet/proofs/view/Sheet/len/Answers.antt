@@ -9,4 +9,4 @@ pub returns : goal.returns
 unfolding stated
 returns c =
     let l = length_routes_from (bits_of c.args.self.now.bytes.now) 0 (stating (bits_of c.args.self.now.bytes.now) 0 Routes) in
-    record { value = cc; bound = c.field-at.ensures.bound }
+    record { value = cc; bound = c.field_at.ensures.bound }

@@ -13,46 +13,46 @@ use Rattle.layout.specs.Stated.{stated}
 use Rattle.sheet.specs.View.{board_of}
 use Rattle.sheet.proofs.view.Sheet.read.Goals as goal
 
-pub returns-in-err-header : goal.returns-in-err-header
-returns-in-err-header c =
-    let p = err_from_is_err_and c.from-residual.result c.from-residual.ensures.1 in
+pub returns-in_err-header : goal.returns-in_err-header
+returns-in_err-header c =
+    let p = err_from_is_err_and c.from_residual.result c.from_residual.ensures.1 in
     let a =
     refused_through board_of _ _ _ _ _ p.1 p.2
     (header_refused c.args.bytes.now c.new-reader.result.bytes.now c.args.entries c.new-reader.ensures.bytes
-    c.in-err-header.field-0.0 c.in-err-header.ensures.answer)
+    c.in_err-header.field-0.0 c.in_err-header.ensures.answer)
     in
     record { answer = a; lent = rw p.1 tt; reads = reads c.args.entries c.args.bytes.now _ a }
 
-pub returns-in-err-check-records : goal.returns-in-err-check-records
-returns-in-err-check-records c =
-    let p = err_from_is_err_and c.from-residual-in-err-check-records.result c.from-residual-in-err-check-records.ensures.1 in
+pub returns-in_err-check_records : goal.returns-in_err-check_records
+returns-in_err-check_records c =
+    let p = err_from_is_err_and c.from_residual-in_err-check_records.result c.from_residual-in_err-check_records.ensures.1 in
     let a =
     refused_through board_of _ _ _ _ _ p.1 p.2
     (records_refused c.args.bytes.now c.new-reader.result.bytes.now c.args.entries c.new-reader.ensures.bytes
-    c.read-header.new.reader.bytes.now (stated_of c.in-ok-header.header) c.in-ok-header.ensures.answer
-    c.in-ok-header.ensures.bytes c.in-err-check-records.field-0.0 c.in-err-check-records.ensures.answer)
+    c.read_header.new.reader.bytes.now (stated_of c.in_ok-header.header) c.in_ok-header.ensures.answer
+    c.in_ok-header.ensures.bytes c.in_err-check_records.field-0.0 c.in_err-check_records.ensures.answer)
     in
     record { answer = a; lent = rw p.1 tt; reads = reads c.args.entries c.args.bytes.now _ a }
 
-pub check-end-requires : goal.check-end-requires
-check-end-requires c =
+pub check_end-requires : goal.check_end-requires
+check_end-requires c =
     records_inside c.args.bytes.now c.new-reader.result.bytes.now c.args.entries c.new-reader.ensures.bytes
-    c.read-header.new.reader.bytes.now (stated_of c.in-ok-header.header) c.in-ok-header.ensures.answer
-    c.in-ok-header.ensures.bytes c.in-ok-check-records.ensures.answer
+    c.read_header.new.reader.bytes.now (stated_of c.in_ok-header.header) c.in_ok-header.ensures.answer
+    c.in_ok-header.ensures.bytes c.in_ok-check_records.ensures.answer
 
-pub returns-in-err-check-end : goal.returns-in-err-check-end
-returns-in-err-check-end c =
-    let p = err_from_is_err_and c.from-residual-in-err-check-end.result c.from-residual-in-err-check-end.ensures.1 in
+pub returns-in_err-check_end : goal.returns-in_err-check_end
+returns-in_err-check_end c =
+    let p = err_from_is_err_and c.from_residual-in_err-check_end.result c.from_residual-in_err-check_end.ensures.1 in
     let e =
     end_decides c.args.bytes.now c.new-reader.result.bytes.now c.args.entries c.new-reader.ensures.bytes
-    c.read-header.new.reader.bytes.now (stated_of c.in-ok-header.header) c.in-ok-header.ensures.answer
-    c.in-ok-header.ensures.bytes c.in-ok-check-records.ensures.answer
+    c.read_header.new.reader.bytes.now (stated_of c.in_ok-header.header) c.in_ok-header.ensures.answer
+    c.in_ok-header.ensures.bytes c.in_ok-check_records.ensures.answer
     in
     let a =
     refused_through board_of _ _ _ _ _ p.1 p.2
     (e
-    ∙ refusal (first_no (end_questions (bits_of c.args.bytes.now) c.in-ok-header.header.routes)) tt c.in-err-check-end.field-0.0
-    c.in-err-check-end.ensures)
+    ∙ refusal (first_no (end_questions (bits_of c.args.bytes.now) c.in_ok-header.header.routes)) tt c.in_err-check_end.field-0.0
+    c.in_err-check_end.ensures)
     in
     record { answer = a; lent = rw p.1 tt; reads = reads c.args.entries c.args.bytes.now _ a }
 
@@ -60,12 +60,12 @@ pub returns : goal.returns
 returns c =
     let e =
     end_decides c.args.bytes.now c.new-reader.result.bytes.now c.args.entries c.new-reader.ensures.bytes
-    c.read-header.new.reader.bytes.now (stated_of c.in-ok-header.header) c.in-ok-header.ensures.answer
-    c.in-ok-header.ensures.bytes c.in-ok-check-records.ensures.answer
+    c.read_header.new.reader.bytes.now (stated_of c.in_ok-header.header) c.in_ok-header.ensures.answer
+    c.in_ok-header.ensures.bytes c.in_ok-check_records.ensures.answer
     in
     let a =
-    acceptance (first_no (end_questions (bits_of c.args.bytes.now) c.in-ok-header.header.routes)) tt tt
-    c.in-ok-check-end.ensures
+    acceptance (first_no (end_questions (bits_of c.args.bytes.now) c.in_ok-header.header.routes)) tt tt
+    c.in_ok-check_end.ensures
     in
     let r = ap (λ x. answer x (stated (bits_of c.args.bytes.now))) (sym (e ∙ a.0)) in
     record { answer = r; lent = refl; reads = reads c.args.entries c.args.bytes.now _ r }

@@ -7,11 +7,11 @@ use Rattle.layout.specs.Stated.{stated, stating, route_at}
 use Rattle.bits.specs.declared.field.Field.TheVariants.{Routes}
 use Rattle.sheet.proofs.view.Sheet.route.Goals as goal
 
-pub record-start-requires : goal.record-start-requires
-record-start-requires c = omega (arith, c.len.ensures.bound)
+pub record_start-requires : goal.record_start-requires
+record_start-requires c = omega (arith, c.len.ensures.bound)
 
-pub route-at-requires : goal.route-at-requires
-route-at-requires c = omega (arith, c.len.ensures.bound, c.record-start.ensures)
+pub route_at-requires : goal.route_at-requires
+route_at-requires c = omega (arith, c.len.ensures.bound, c.record_start.ensures)
 
 pub returns-then-number-len : goal.returns-then-number-len
 unfolding stated
@@ -20,7 +20,7 @@ returns-then-number-len c =
     let n = stating bits 0 Routes in
     let l : c.args.number < n = omega (arith, c.len.ensures.value, length_routes_from bits 0 n) in
     let e = nth_routes_from bits 0 n c.args.number l in
-    ap Some (c.route-at.ensures ∙ ap (route_at bits) c.record-start.ensures)
+    ap Some (c.route_at.ensures ∙ ap (route_at bits) c.record_start.ensures)
     ∙ ap (λ x. Some (route_at bits (record_start x))) (sym (zero-add c.args.number)) ∙ e
 
 pub returns-else-number-len : goal.returns-else-number-len

@@ -3,9 +3,9 @@ use Rattle.picker.specs.Arrays.{pile}
 use Rattle.picker.proofs.Listed.{as_made, empty_inside}
 use Rattle.picker.proofs.newest_first.methods.NewestFirstPicker.empty.Goals as goal
 
-pub invariant-of-self : goal.invariant-of-self
+pub invariant_of-self : goal.invariant_of-self
 unfolding pile
-invariant-of-self c = (search rules, (search rules, (empty_inside _ refl, tt)))
+invariant_of-self c = (search rules, (search rules, (empty_inside _ refl, tt)))
 
 pub returns : goal.returns
 unfolding pile

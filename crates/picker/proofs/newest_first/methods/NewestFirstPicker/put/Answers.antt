@@ -17,8 +17,8 @@ returns-then-self-ge-ROOM c =
     let told = put_full (stack p) 128 p.count c.args.place p.inside c.if-place-ge-PLACES.false (omega arith) in
     record { answer = told.0; meaning = told.1; stack = refl }
 
-pub invariant-of-self : goal.invariant-of-self
-invariant-of-self c =
+pub invariant_of-self : goal.invariant_of-self
+invariant_of-self c =
     let p = c.args.self.now in
     let whole : length p.places ≡ 128 = search rules in
     let top = pile_put p.places p.waiting c.args.place (omega arith) in

@@ -12,8 +12,8 @@ returns-then-self-eq0 c =
     let none = ap (pile p.places) c.if-self-eq0.true in
     record { took = took_none (stack p) 128 p.count none; newest = sym (ap head_of none); rest = none ∙ sym (ap tail_of none) }
 
-pub invariant-of-self : goal.invariant-of-self
-invariant-of-self c =
+pub invariant_of-self : goal.invariant_of-self
+invariant_of-self c =
     let p = c.args.self.now in
     let split = pile_take p.places p.waiting (omega arith) in
     (omega arith, (omega arith, (left_inside _ (stack p) _ p.inside (unmoved _ _ (sym split)), tt)))
@@ -22,4 +22,4 @@ pub returns : goal.returns
 returns c =
     let p = c.args.self.now in
     let split = pile_take p.places p.waiting (omega arith) in
-    record { took = took_some (stack p) 128 p.count (get_or p.places (p.waiting - 1) 0) _ c.saturating-add-self.result (unmoved (stack p) _ (sym split)) c.saturating-add-self.ensures; newest = sym (ap head_of split); rest = sym (ap tail_of split) }
+    record { took = took_some (stack p) 128 p.count (get_or p.places (p.waiting - 1) 0) _ c.saturating_add-self.result (unmoved (stack p) _ (sym split)) c.saturating_add-self.ensures; newest = sym (ap head_of split); rest = sym (ap tail_of split) }

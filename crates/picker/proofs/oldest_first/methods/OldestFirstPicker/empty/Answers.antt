@@ -3,9 +3,9 @@ use Rattle.picker.specs.Arrays.{ring}
 use Rattle.picker.proofs.Listed.{as_made, empty_inside}
 use Rattle.picker.proofs.oldest_first.methods.OldestFirstPicker.empty.Goals as goal
 
-pub invariant-of-self : goal.invariant-of-self
+pub invariant_of-self : goal.invariant_of-self
 unfolding ring
-invariant-of-self c = (c.args.self.now.first_inside, (search rules, (search rules, (empty_inside _ refl, tt))))
+invariant_of-self c = (c.args.self.now.first_inside, (search rules, (search rules, (empty_inside _ refl, tt))))
 
 pub returns : goal.returns
 unfolding ring

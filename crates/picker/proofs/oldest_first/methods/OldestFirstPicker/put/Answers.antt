@@ -17,8 +17,8 @@ returns-then-self-ge-ROOM c =
     let told = put_full (queue p) 128 p.count c.args.place p.inside c.if-place-ge-PLACES.false (omega arith) in
     record { answer = told.0; meaning = told.1; queue = refl }
 
-pub invariant-of-self : goal.invariant-of-self
-invariant-of-self c =
+pub invariant_of-self : goal.invariant_of-self
+invariant_of-self c =
     let p = c.args.self.now in
     let last = ring_put p.places p.first p.waiting c.args.place (search rules) c.if-self-ge-ROOM.false in
     (omega arith, (omega arith, (p.stops, (joined_inside c.args.place (queue p) _ p.inside c.if-place-ge-PLACES.false (joined_last _ _ _ last), tt))))

@@ -12,8 +12,8 @@ returns-then-self-eq0 c =
     let none = ap (ring p.places p.first) c.if-self-eq0.true in
     record { took = took_none (queue p) 128 p.count none; oldest = sym (ap head_of none); rest = none ∙ sym (ap tail_of none) }
 
-pub invariant-of-self : goal.invariant-of-self
-invariant-of-self c =
+pub invariant_of-self : goal.invariant_of-self
+invariant_of-self c =
     let p = c.args.self.now in
     let split = ring_take p.places p.first p.waiting p.first_inside (omega arith) in
     (omega arith, (omega arith, (omega arith, (left_inside _ (queue p) _ p.inside (unmoved _ _ (sym split)), tt))))
@@ -22,4 +22,4 @@ pub returns : goal.returns
 returns c =
     let p = c.args.self.now in
     let split = ring_take p.places p.first p.waiting p.first_inside (omega arith) in
-    record { took = took_some (queue p) 128 p.count (get_or p.places p.first 0) _ c.saturating-add-self.result (unmoved (queue p) _ (sym split)) c.saturating-add-self.ensures; oldest = sym (ap head_of split); rest = sym (ap tail_of split) }
+    record { took = took_some (queue p) 128 p.count (get_or p.places p.first 0) _ c.saturating_add-self.result (unmoved (queue p) _ (sym split)) c.saturating_add-self.ensures; oldest = sym (ap head_of split); rest = sym (ap tail_of split) }

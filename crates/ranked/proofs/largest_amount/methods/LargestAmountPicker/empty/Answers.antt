@@ -4,7 +4,7 @@ use Rattle.ranked.proofs.Entries.{nothing_ordered}
 use Rattle.ranked.proofs.Places.{none_inside}
 use Rattle.ranked.proofs.largest_amount.methods.LargestAmountPicker.empty.Goals as goal
 
-pub invariant-of-self : goal.invariant-of-self
-invariant-of-self c =
+pub invariant_of-self : goal.invariant_of-self
+invariant_of-self c =
     let none = c.clear.ensures.held in
     (search rules, (∣ nothing_ordered amount_before _ none ∣₁, (none_inside (λ e. e.place) _ none, tt)))

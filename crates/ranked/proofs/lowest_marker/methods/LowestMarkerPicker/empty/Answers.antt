@@ -5,7 +5,7 @@ use Rattle.ranked.proofs.Markers.{blank}
 use Rattle.ranked.proofs.Places.{none_inside}
 use Rattle.ranked.proofs.lowest_marker.methods.LowestMarkerPicker.empty.Goals as goal
 
-pub invariant-of-self : goal.invariant-of-self
-invariant-of-self c =
+pub invariant_of-self : goal.invariant_of-self
+invariant_of-self c =
     let none = c.clear.ensures.held in
     (search rules, (∣ nothing_ordered marker_before _ none ∣₁, (none_inside (λ e. e.place) _ none, (each_none marker_before (Marked c.args.self.now.markers.now) blank _ none, tt))))

@@ -6,8 +6,8 @@ use Rattle.ranked.proofs.Markers.{blank}
 use Rattle.ranked.proofs.Places.{places_shuffled, pushed_inside, put_pushed, put_refused}
 use Rattle.ranked.proofs.lowest_marker.methods.LowestMarkerPicker.put.Goals as goal
 
-pub invariant-of-self : goal.invariant-of-self
-invariant-of-self c =
+pub invariant_of-self : goal.invariant_of-self
+invariant_of-self c =
     let p = c.args.self.now in
     let es = held p.heap in
     let told = c.push.ensures.held in
