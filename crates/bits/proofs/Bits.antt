@@ -1,5 +1,5 @@
 -- The bits of numbers and of bytes, and the numbers that bits state.
-use Rattle.std.proofs.Common.{◌≡◌, ℕ, zero, suc, ◌+◌, ◌-◌, ◌*◌, ◌/◌, ◌%◌, ◌^◌, ◌<◌, List, [], ◌∷◌, ◌++◌, length, get_or, sym, refl, ap, ◌∙◌, ap₂, le_of_suc-le-suc, mul-le-mul_right, mod-eq_of_lt, add_comm, suc-add, pow-suc, zero-add, one-add, arith, length-append}
+use Rattle.std.proofs.Common.{◌≡◌, ℕ, zero, suc, ◌+◌, ◌*◌, ◌/◌, ◌%◌, ◌^◌, ◌<◌, List, [], ◌∷◌, ◌++◌, length, get_or, sym, refl, ap, ◌∙◌, ap₂, le_of_suc-le-suc, mul-le-mul_right, mod-eq_of_lt, add_comm, suc-add, pow-suc, zero-add, one-add, arith, length-append}
 use native.Mathlib.Nat.{mod-mod, add-mul-mod_self_right, mod-one}
 use Rattle.std.proofs.lemmas.Nat.{pow_pos, pow-add, shr-shr, mod-pow-add, field_of, mod_below, shr_high, mod_low}
 use Rattle.std.specs.List.{AllByRecursion as All}

@@ -1,5 +1,5 @@
 -- A field as a part of the list of bits, read off it and put into it.
-use Rattle.std.proofs.Common.{◌≡◌, ℕ, zero, suc, ◌+◌, ◌-◌, ◌%◌, ◌^◌, ◌<◌, ◌≤◌, List, ◌∷◌, ◌++◌, length, get_or, take, drop, sym, refl, ap, ◌∙◌, ap₂, add-one, arith}
+use Rattle.std.proofs.Common.{◌≡◌, ℕ, zero, suc, ◌+◌, ◌%◌, ◌^◌, ◌<◌, ◌≤◌, List, ◌∷◌, ◌++◌, length, get_or, take, drop, sym, refl, ap, ◌∙◌, ap₂, add-one, arith}
 use Rattle.std.proofs.lemmas.List.{drop-drop, drop_more, drop_at, take_at, length-drop, length-append, take-append-drop}
 use Rattle.bits.proofs.Bits.{Binary, length_digits, length_cut, binary_cut, digits_value, value_digits}
 use Rattle.bits.specs.Bits.{digits, value, cut, field_at}

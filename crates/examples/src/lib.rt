@@ -1,4 +1,6 @@
 // The worked examples. Each function stands for the theorem that is its contract; what it answers says nothing.
+#![tactic(auto)]
+
 ghost use Rattle.examples.specs.Instances.{Instances};
 ghost use Rattle.examples.specs.Mistakes.{Mistakes};
 ghost use Rattle.examples.specs.Table.{EveryRow};

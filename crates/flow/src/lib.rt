@@ -1,4 +1,6 @@
 // What flows are, what holds of every board, and what a delivery pays.
+#![tactic(auto)]
+
 pub mod laws;
 pub mod pay;
 #[cfg(test)]

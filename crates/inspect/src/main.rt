@@ -1,4 +1,6 @@
 // Says what a sheet states: reads it from standard input, and prints its board, or why it is refused.
+#![tactic(auto)]
+
 use report::sheets::describe;
 use std::io::Read;
 

@@ -1,2 +1,4 @@
 // What the programs print, as text.
+#![tactic(auto)]
+
 pub mod sheets;

@@ -1,5 +1,5 @@
 -- The questions on a whole sheet: the header, the records and the end, one after the other.
-use Rattle.std.proofs.Common.{◌≡◌, ℕ, ◌+◌, ◌*◌, ◌≤◌, List, ◌++◌, length, Some, None, Ok, Err, Option, sym, ap, ◌∙◌, arith}
+use Rattle.std.proofs.Common.{◌≡◌, ℕ, ◌*◌, ◌≤◌, List, ◌++◌, length, Some, None, Ok, Err, Option, sym, ap, ◌∙◌, arith}
 use Rattle.board.proofs.First.{first_none, first_some, refusal, acceptance}
 use Rattle.board.specs.Questions.{first_no, answer}
 use Rattle.bits.proofs.Bits.{length_bits_of}

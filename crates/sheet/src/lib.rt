@@ -1,4 +1,6 @@
 // Sheets: read over lent bytes as a view that copies nothing, and written into a lent buffer.
+#![tactic(auto)]
+
 mod header;
 mod limits;
 pub mod reading;

@@ -1,3 +1,5 @@
+#![tactic(auto)]
+
 // Frames, routes and sheets on examples: the worked ones, and every refusal with its bit.
 #[cfg(test)]
 mod making;
