@@ -2,7 +2,7 @@
 use Rattle.std.proofs.Common.{◌≡◌, ℕ, zero, suc, ◌+◌, ◌*◌, ◌/◌, ◌%◌, ◌^◌, ◌<◌, List, [], ◌∷◌, ◌++◌, length, get_or, sym, refl, ap, ◌∙◌, ap₂, le_of_suc-le-suc, mul-le-mul_right, mod-eq_of_lt, add_comm, suc-add, pow-suc, zero-add, one-add, arith, length-append}
 use native.Mathlib.Nat.{mod-mod, add-mul-mod_self_right, mod-one}
 use Rattle.std.proofs.lemmas.Nat.{pow_pos, pow-add, shr-shr, mod-pow-add, field_of, mod_below, shr_high, mod_low}
-use Rattle.std.specs.List.{AllByRecursion as All}
+use Rattle.std.specs.List.{AllByRecursion}
 use Rattle.bits.specs.Bits.{digits, bits_of, value, cut, field_at}
 
 pub length_digits : (w n : ℕ) → length (digits w n) ≡ w
@@ -67,7 +67,7 @@ digits_low w k n =
 
 -- each bit is 0 or 1
 abbrev pub Binary : List ℕ → Type 0
-Binary bs = All (λ b. b < 2) bs
+Binary bs = AllByRecursion (λ b. b < 2) bs
 
 pub binary_digits : (w n : ℕ) → Binary (digits w n)
 unfolding digits

@@ -6,7 +6,7 @@
 --   ValidRoute   what holds of every route of a frame
 --   Valid        a valid board: a frame and at most 512 routes of it
 use Rattle.std.specs.Prelude.{◌≡◌, ℕ, ◌<◌, ◌≤◌, List, length, pos, negsuc, ◌≤ℤ◌}
-use Rattle.std.specs.List.{AllByRecursion as All}
+use Rattle.std.specs.List.{AllByRecursion}
 use Rattle.board.specs.declared.frame.Frame.{Frame}
 use Rattle.board.specs.declared.route.Route.{Route}
 
@@ -47,4 +47,4 @@ pub record ValidRoute (s : Shape) (r : Route) : Type 0 where
 pub record Valid (b : Board) : Type 0 where
   pub frame : ValidShape b.shape
   pub few : length b.routes ≤ 512
-  pub each : All (ValidRoute b.shape) b.routes
+  pub each : AllByRecursion (ValidRoute b.shape) b.routes

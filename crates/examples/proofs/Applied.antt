@@ -5,7 +5,7 @@ use Rattle.std.proofs.lemmas.Int.{ints}
 use Rattle.std.proofs.lemmas.List.Sorted.{IsPermutation-swap}
 use Rattle.std.proofs.lemmas.Bool.{or_cases, eqb-true, false≢true}
 use Rattle.std.specs.List.Sorted.{IsPermutation}
-use Rattle.std.specs.List.{AllByRecursion as All}
+use Rattle.std.specs.List.{AllByRecursion}
 use Rattle.board.specs.Board.{Board}
 use Rattle.flow.proofs.Bounds.{width_bounds, none_overpromised, nets_sum, nets_cancel, arrives}
 use Rattle.flow.proofs.Closing.{closed_is_full, full_is_closed, stays_closed}
@@ -70,7 +70,7 @@ reach b xs O R h e i j =
     }
 
 -- What holds of the places listed holds of each place of their region.
-listed : (P : ℕ → Type 0) (us : List ℕ) → All P us → (v : ℕ) → region us v ≡ true → P v
+listed : (P : ℕ → Type 0) (us : List ℕ) → AllByRecursion P us → (v : ℕ) → region us v ≡ true → P v
 listed P [] h v e = absurd (false≢true e)
 listed P (u ∷ us) h v e =
     ⊎_elim (λ i. subst P (sym (eqb-true v u i)) h.0) (λ i. listed P us h.1 v i) (or_cases (eqb v u) (region us v) e)

@@ -3,7 +3,7 @@ use Rattle.std.proofs.Common.{◌≡◌, Bool, true, false, ◌&&◌, leb, List,
 use lib.Signed.{le_z}
 use Rattle.std.proofs.lemmas.Int.{ints}
 use Rattle.std.proofs.lemmas.Bool.{and_parts, leb-true, false≢true}
-use Rattle.std.specs.List.{AllByRecursion as All}
+use Rattle.std.specs.List.{AllByRecursion}
 use Rattle.board.proofs.Valid.{shape_valid, route_valid}
 use Rattle.board.specs.Board.{Board, Shape, Valid, ValidRoute}
 use Rattle.board.specs.Questions.{first_no, frame_questions, route_questions}
@@ -32,7 +32,7 @@ abbrev are_routes : Shape → List Route → Bool
 are_routes s [] = true
 are_routes s (r ∷ rs) = passes (first_no (route_questions s r)) && are_routes s rs
 
-are_routes_lem : (s : Shape) (rs : List Route) → are_routes s rs ≡ true → All (ValidRoute s) rs
+are_routes_lem : (s : Shape) (rs : List Route) → are_routes s rs ≡ true → AllByRecursion (ValidRoute s) rs
 are_routes_lem s [] h = tt
 are_routes_lem s (r ∷ rs) h =
     let p = and_parts (passes (first_no (route_questions s r))) _ h in

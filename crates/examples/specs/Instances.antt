@@ -3,7 +3,7 @@
 --   Instances   each theorem, with what it asks and what it gives
 use Rattle.std.specs.Prelude.{◌≡◌, ℕ, ◌<◌, true, false, List, [], ◌∷◌, length, ℤ, pos, negsuc, ◌≤ℤ◌, ◌<ℤ◌}
 use Rattle.std.specs.List.Sorted.{IsPermutation}
-use Rattle.std.specs.List.{AllByRecursion as All}
+use Rattle.std.specs.List.{AllByRecursion}
 use Rattle.board.specs.Board.{Board, Valid}
 use Rattle.flow.specs.Flow.{Network, Joins, net, Within, Flow, delivery, FlowOfValue, raised}
 use Rattle.flow.specs.Imbalance.{everywhere, sum_in, over, ends, surplus, shortage, excess, origins, Blocks, Reach}
@@ -73,10 +73,10 @@ pub record Instances : Type 0 where
       × Flow crossing carrying
   -- the nets of the two places sum to what goes through them, and those of all places to 0
   pub nets_sum :
-      All (Joins 4) crossing.routes
+      AllByRecursion (Joins 4) crossing.routes
       × (sum_in 4 first_two (net crossing.routes carrying) ≡ through crossing.routes carrying first_two)
   pub nets_cancel :
-      All (Joins 4) crossing.routes × (sum_in 4 everywhere (net crossing.routes carrying) ≡ pos 0)
+      AllByRecursion (Joins 4) crossing.routes × (sum_in 4 everywhere (net crossing.routes carrying) ≡ pos 0)
   -- what leaves home arrives at port
   pub arrives : Flow crossing carrying × (delivery crossing carrying ≡ pos 6) × FlowOfValue crossing carrying (pos 6)
   -- raising the share from place 0 to place 1 by 1

@@ -7,7 +7,7 @@
 --   table          the rows
 --   EveryRow       every row of the table holds
 use Rattle.std.specs.Prelude.{◌≡◌, ℕ, List, [], ◌∷◌, ℤ, pos, negsuc, Ok, Err, Result, nat_eq}
-use Rattle.std.specs.List.{AllByRecursion as All}
+use Rattle.std.specs.List.{AllByRecursion}
 use Rattle.board.specs.Board.{Board, Shape, Valid, ValidShape}
 use Rattle.board.specs.Questions.{answer, route_answer, route_number}
 use Rattle.board.specs.declared.fault.RouteFault.{RouteFault}
@@ -86,4 +86,4 @@ table =
 
 -- Every row of the table holds.
 abbrev pub EveryRow : Type 0
-EveryRow = All Holds table
+EveryRow = AllByRecursion Holds table

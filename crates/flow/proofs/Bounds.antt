@@ -4,7 +4,7 @@ use Rattle.std.proofs.ByRecursion.{All-weaker}
 use Rattle.std.proofs.lemmas.Int.{ints}
 use Rattle.std.proofs.lemmas.Bool.{eqb-false, true≢false, false≢true}
 use Rattle.std.proofs.lemmas.Bool.Decides.{nat_tests}
-use Rattle.std.specs.List.{AllByRecursion as All}
+use Rattle.std.specs.List.{AllByRecursion}
 use Rattle.board.specs.Board.{Board}
 use Rattle.board.specs.declared.route.Route.{Route}
 use Rattle.flow.proofs.Sums.{sum_in_plus, sum_in_minus, sum_in_same, sum_in_zero, sum_in_at}
@@ -23,7 +23,7 @@ valid_is_network b v =
     }
 
 -- The shares that start at (or end at) a place, summed over a region, are those whose start (or end) is in it.
-sum_by : (e : Route → ℕ) (n : ℕ) (rs : List Route) (xs : List ℤ) (R : Region) → All (λ r. e r < n) rs
+sum_by : (e : Route → ℕ) (n : ℕ) (rs : List Route) (xs : List ℤ) (R : Region) → AllByRecursion (λ r. e r < n) rs
     → sum_in n R (λ v. carried (λ r. eqb (e r) v) rs xs) ≡ carried (λ r. R (e r)) rs xs
 sum_by e n [] xs R js = sum_in_zero n R
 sum_by e n (r ∷ rs) [] R js = sum_in_zero n R

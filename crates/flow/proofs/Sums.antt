@@ -3,7 +3,7 @@ use Rattle.std.proofs.Common.{◌≡◌, ℕ, zero, suc, ◌<◌, ◌≤◌, Boo
 use Rattle.std.proofs.lemmas.Int.{ints}
 use Rattle.std.proofs.lemmas.Bool.{eq-eqb, ne_eqb, cases_eq}
 use Rattle.std.proofs.ByRecursion.{All-weaker}
-use Rattle.std.specs.List.{AllByRecursion as All}
+use Rattle.std.specs.List.{AllByRecursion}
 use Rattle.board.specs.declared.route.Route.{Route}
 use Rattle.flow.specs.Flow.{Joins}
 use Rattle.flow.specs.Regions.{Region, leaves, enters, marks, width}
@@ -132,7 +132,7 @@ sum_in_even (suc n) f h e v l =
 
 -- Regions that agree on the places of a board are the same region.
 
-pub marks_same : (m : Route → ℤ) (p q : Route → Bool) (rs : List Route) → All (λ r. p r ≡ q r) rs → marks m p rs ≡ marks m q rs
+pub marks_same : (m : Route → ℤ) (p q : Route → Bool) (rs : List Route) → AllByRecursion (λ r. p r ≡ q r) rs → marks m p rs ≡ marks m q rs
 marks_same m p q [] h = refl
 marks_same m p q (r ∷ rs) h =
     ap₂ (λ (t : Bool) (y : ℤ). cond t (m r) (pos 0) +ℤ y) h.0 (marks_same m p q rs h.1)
@@ -143,7 +143,7 @@ leaves_same n R S r h j = ap₂ (λ (s t : Bool). s && not t) (h r.start j.start
 pub enters_same : (n : ℕ) (R S : Region) (r : Route) → ((v : ℕ) → v < n → R v ≡ S v) → Joins n r → enters R r ≡ enters S r
 enters_same n R S r h j = ap₂ (λ (s t : Bool). not s && t) (h r.start j.start) (h r.end j.end)
 
-pub width_same : (n : ℕ) (rs : List Route) (R S : Region) → All (Joins n) rs → ((v : ℕ) → v < n → R v ≡ S v) → width rs R ≡ width rs S
+pub width_same : (n : ℕ) (rs : List Route) (R S : Region) → AllByRecursion (Joins n) rs → ((v : ℕ) → v < n → R v ≡ S v) → width rs R ≡ width rs S
 width_same n rs R S js h =
     ap₂ (λ (x y : ℤ). x -ℤ y)
     (marks_same (λ r. r.ceiling) (leaves R) (leaves S) rs (All-weaker (Joins n) _ (λ r j. leaves_same n R S r h j) rs js))

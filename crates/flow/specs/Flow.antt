@@ -11,7 +11,7 @@
 --   raised        shares with one of them raised
 --   traffic       the sum of all shares
 use Rattle.std.specs.Prelude.{◌≡◌, ℕ, ◌<◌, Bool, cond, List, [], ◌∷◌, ℤ, pos, ◌+ℤ◌, ◌-ℤ◌, neg_ℤ, ◌≤ℤ◌, fold, ◌==◌, ◌≢◌, slice_index_or, slice_set}
-use Rattle.std.specs.List.{AllByRecursion as All}
+use Rattle.std.specs.List.{AllByRecursion}
 use Rattle.board.specs.Board.{Board}
 use Rattle.board.specs.declared.route.Route.{Route}
 
@@ -26,7 +26,7 @@ pub record Network (b : Board) : Type 0 where
   pub home : b.shape.home < b.shape.places
   pub port : b.shape.port < b.shape.places
   pub apart : b.shape.port ≡ b.shape.home → ⊥
-  pub routes : All (Joins b.shape.places) b.routes
+  pub routes : AllByRecursion (Joins b.shape.places) b.routes
 
 -- The sum of the shares of those routes that the test picks. Route k has the share at place k of the list.
 abbrev pub carried : (Route → Bool) → List Route → List ℤ → ℤ

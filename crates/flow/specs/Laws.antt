@@ -17,7 +17,7 @@
 --   StaysClosed         a closed region stays closed while the nets of its places stay
 use Rattle.std.specs.Prelude.{◌≡◌, ℕ, ◌<◌, true, false, cond, List, length, ℤ, pos, ◌+ℤ◌, ◌-ℤ◌, ◌≤ℤ◌, ◌<ℤ◌, ◌==◌, slice_index_or}
 use Rattle.std.specs.List.Sorted.{IsPermutation}
-use Rattle.std.specs.List.{AllByRecursion as All}
+use Rattle.std.specs.List.{AllByRecursion}
 use Rattle.board.specs.Board.{Board, Valid}
 use Rattle.board.specs.declared.route.Route.{Route}
 use Rattle.flow.specs.Flow.{Network, Joins, net, Within, Flow, delivery, FlowOfValue, raised}
@@ -101,12 +101,12 @@ EvenIsFlow =
 -- The nets over the places of a region sum to what goes through it.
 abbrev pub NetsSum : Type 0
 NetsSum =
-    (n : ℕ) (rs : List Route) (xs : List ℤ) (R : Region) → All (Joins n) rs
+    (n : ℕ) (rs : List Route) (xs : List ℤ) (R : Region) → AllByRecursion (Joins n) rs
     → sum_in n R (net rs xs) ≡ through rs xs R
 
 -- The nets over all places sum to 0.
 abbrev pub NetsCancel : Type 0
-NetsCancel = (n : ℕ) (rs : List Route) (xs : List ℤ) → All (Joins n) rs → sum_in n everywhere (net rs xs) ≡ pos 0
+NetsCancel = (n : ℕ) (rs : List Route) (xs : List ℤ) → AllByRecursion (Joins n) rs → sum_in n everywhere (net rs xs) ≡ pos 0
 
 -- What leaves home arrives at port: a flow with delivery d is a flow of value d from home to port, and the other way
 -- round.

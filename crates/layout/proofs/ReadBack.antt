@@ -3,7 +3,7 @@ use Rattle.std.proofs.Common.{◌≡◌, ℕ, zero, suc, ◌+◌, ◌-◌, ◌%�
 use Rattle.std.proofs.lemmas.List.{append_assoc, length-append, length-drop, length-replicate}
 use Rattle.std.proofs.lemmas.Int.{ints}
 use Rattle.std.proofs.lemmas.Bool.{le-leb, lt-ltb}
-use Rattle.std.specs.List.{flat_map, AllByRecursion as All}
+use Rattle.std.specs.List.{flat_map, AllByRecursion}
 use Rattle.board.proofs.First.{first_none, all_handed, handed_on}
 use Rattle.board.proofs.Valid.{shape_accepted, route_accepted}
 use Rattle.board.specs.Board.{Board, Shape, ValidRoute, Valid}
@@ -99,7 +99,7 @@ record_back bits s k r rest few v e =
     )
 
 -- the records, one after the other
-records_back : (bits : List ℕ) (s : Shape) (k : ℕ) (rs : List Route) (rest : List ℕ) → s.places ≤ 128 → All (ValidRoute s) rs
+records_back : (bits : List ℕ) (s : Shape) (k : ℕ) (rs : List Route) (rest : List ℕ) → s.places ≤ 128 → AllByRecursion (ValidRoute s) rs
     → drop (record_start k) bits ≡ flat_map record_bits rs ++ rest
     → (routes_from bits k (length rs) ≡ rs) × (first_no (records_questions bits s k (length rs)) ≡ None) × (drop (record_start (k + length rs)) bits ≡ rest)
 unfolding routes_from records_questions

@@ -2,7 +2,7 @@
 use Rattle.std.proofs.Common.{◌≡◌, ℕ, zero, suc, ◌+◌, ◌-◌, ◌*◌, ◌<◌, ◌≤◌, true, cond, eqb, ltb, List, [], ◌∷◌, ◌++◌, length, drop, Some, None, sym, refl, ap, ◌∙◌, ap₂, add-zero, zero-add, arith}
 use Rattle.std.proofs.lemmas.List.{append_assoc, length-drop}
 use Rattle.std.proofs.lemmas.Bool.{ltb-true, eqb-true, and_parts}
-use Rattle.std.specs.List.{flat_map, AllByRecursion as All}
+use Rattle.std.specs.List.{flat_map, AllByRecursion}
 use Rattle.board.proofs.First.{first_parts}
 use Rattle.board.proofs.Valid.{shape_valid, route_valid}
 use Rattle.board.specs.Board.{Shape, ValidShape, ValidRoute, Valid}
@@ -65,7 +65,7 @@ module _ (bits : List ℕ) (binary : Binary bits) where
       )
 
   records_again : (s : Shape) (k n : ℕ) → first_no (records_questions bits s k n) ≡ None
-      → (drop (record_start k) bits ≡ flat_map record_bits (routes_from bits k n) ++ drop (record_start (k + n)) bits) × All (ValidRoute s) (routes_from bits k n)
+      → (drop (record_start k) bits ≡ flat_map record_bits (routes_from bits k n) ++ drop (record_start (k + n)) bits) × AllByRecursion (ValidRoute s) (routes_from bits k n)
   unfolding routes_from
   records_again s k zero e = (ap (λ (x : ℕ). drop (record_start x) bits) (sym (add-zero k)), tt)
   records_again s k (suc n) e =

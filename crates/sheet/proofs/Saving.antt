@@ -2,7 +2,7 @@
 use Rattle.std.proofs.Common.{◌≡◌, ℕ, suc, ◌<◌, ◌≤◌, Bool, true, false, leb, List, [], ◌∷◌, length, pos, is_ok, Some, None, Ok, Err, Decides, Option, sym, refl, ap, ◌∙◌, ⊎_elim}
 use Rattle.std.proofs.lemmas.Bool.{le-leb, lt-leb, cases_lt, true≢false}
 use Rattle.std.specs.Result.{result_err}
-use Rattle.std.specs.List.{AllByRecursion as All}
+use Rattle.std.specs.List.{AllByRecursion}
 use Rattle.board.specs.Board.{Board, Shape, shape_of, ValidShape, ValidRoute}
 use Rattle.board.proofs.First.{first_parts, handed_no, handed_on, none_handed}
 use Rattle.board.specs.Questions.{Question, first_no, handed_up, answer, route_questions}
@@ -39,14 +39,14 @@ unfolding routes_questions
 routes_first s k r rs f h =
     handed_no (order_of k) (route_questions s r) (routes_questions s (suc k) rs) f (sym h)
 
-pub routes_valid : (s : Shape) (k : ℕ) (rs : List Route) → first_no (routes_questions s k rs) ≡ None → All (ValidRoute s) rs
+pub routes_valid : (s : Shape) (k : ℕ) (rs : List Route) → first_no (routes_questions s k rs) ≡ None → AllByRecursion (ValidRoute s) rs
 unfolding routes_questions
 routes_valid s k [] h = tt
 routes_valid s k (r ∷ rs) h =
     let both = first_parts (handed_up (order_of k) (route_questions s r)) (routes_questions s (suc k) rs) h in
     (route_valid s r (none_handed (order_of k) (route_questions s r) both.0), routes_valid s (suc k) rs both.1)
 
-pub routes_accepted : (s : Shape) (k : ℕ) (rs : List Route) → All (ValidRoute s) rs → first_no (routes_questions s k rs) ≡ None
+pub routes_accepted : (s : Shape) (k : ℕ) (rs : List Route) → AllByRecursion (ValidRoute s) rs → first_no (routes_questions s k rs) ≡ None
 unfolding routes_questions
 routes_accepted s k [] h = refl
 routes_accepted s k (r ∷ rs) h =

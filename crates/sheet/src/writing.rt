@@ -1,6 +1,6 @@
 // Writing a board as a sheet into a lent buffer.
 ghost use Rattle.std.specs.Prelude.{◌≡◌, ◌+◌, ◌*◌, ◌≤◌, true, false, length, take, pos, ◌≤ℤ◌, is_ok, IfOk, Decides};
-ghost use Rattle.std.specs.List.{AllByRecursion as All};
+ghost use Rattle.std.specs.List.{AllByRecursion};
 ghost use Rattle.board.specs.Board.{shape_of, ValidRoute};
 ghost use Rattle.board.specs.Questions.{first_no, answer, route_questions};
 ghost use Rattle.bits.specs.Bits.{within};
@@ -116,7 +116,7 @@ fn write_record(writer: &mut BitWriter, route: Route)
 // Writes the header and each record.
 fn write_board(writer: &mut BitWriter, frame: &Frame, routes: &[Route])
     requires few { length routes.now ≤ 512 }
-    requires each { All (ValidRoute (shape_of frame.now)) routes.now }
+    requires each { AllByRecursion (ValidRoute (shape_of frame.now)) routes.now }
     requires start { writer.old.position ≡ 0 }
     requires room { sheet_length (length routes.now) ≤ length writer.old.buffer.now }
     ensures placed { Placed writer.old.buffer.now 0 (sheet_bits (board_with frame.now routes.now)) writer.new.buffer.now }
