@@ -5,8 +5,7 @@ SHEET ?= examples/two-places.sheet
 
 # Proves and builds the main program, and runs it on a sheet.
 run:
-	rt check inspect >&2
-	target/bin/inspect < $(SHEET)
+	cd crates/inspect && rt run < $(abspath $(SHEET))
 
 # The gate.
 test:

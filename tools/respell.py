@@ -12,7 +12,8 @@ import subprocess
 import sys
 
 TOKEN = re.compile(r"[A-Za-z_][\w'\-]*")
-DECLARED = re.compile(r"^\s*(?:(?:abbrev|unfoldable)\s+)?(?:pub\s+)?(?:(?:abbrev|data|record|ruleset)\s+)?(?:pub\s+)?([A-Za-z_][\w'\-]*)\s*:\s(.*)$")
+DECLARED = re.compile(r"^\s*(?:let\s+)?(?:(?:abbrev|unfoldable)\s+)?(?:pub\s+)?(?:(?:abbrev|data|record|ruleset)\s+)?(?:pub\s+)?([A-Za-z_][\w'\-]*)\s*:(?:\s(.*))?$")
+LET = re.compile(r"\blet ([A-Za-z_][\w'\-]*) =")
 CAPITAL = re.compile(r"^[a-z][a-z0-9_]*[A-Z]")
 KIT = {"cases_Bool"}
 BORROWED = re.compile(r"^use (?:Rattle\.std|native|lib|mathlib|borrow|denote)\b[^{]*\{(.*)\}$", re.M)
@@ -47,8 +48,9 @@ def declared(texts):
         kit.update(t for line in BORROWED.findall(text) for t in TOKEN.findall(line))
         for line in text.split("\n"):
             m = DECLARED.match(line)
-            if m and not m.group(2).startswith("goal."):
+            if m and not (m.group(2) or "").startswith("goal."):
                 names.add(m.group(1))
+            names.update(LET.findall(line))
     return names - kit
 
 

@@ -85,11 +85,11 @@ ends_apart b R f w =
     let h = b.shape.home in
     let p = b.shape.port in
     let at_home = λ (v : ℕ). cond (eqb h v) (f h) (pos 0) in
-    let at-port = λ (v : ℕ). cond (eqb p v) (f p) (pos 0) in
-    sum_in_same n R f (λ v. (at_home v +ℤ at-port v) +ℤ innerly b f v) (λ v _ _. three_kinds h p v f w.apart)
-    ∙ sum_in_plus n R (λ v. at_home v +ℤ at-port v) (innerly b f)
+    let at_port = λ (v : ℕ). cond (eqb p v) (f p) (pos 0) in
+    sum_in_same n R f (λ v. (at_home v +ℤ at_port v) +ℤ innerly b f v) (λ v _ _. three_kinds h p v f w.apart)
+    ∙ sum_in_plus n R (λ v. at_home v +ℤ at_port v) (innerly b f)
     ∙ ap (λ (y : ℤ). y +ℤ sum_in n R (innerly b f))
-    (sum_in_plus n R at_home at-port ∙ ap₂ ◌+ℤ◌ (sum_in_at n h R (f h) w.home) (sum_in_at n p R (f p) w.port))
+    (sum_in_plus n R at_home at_port ∙ ap₂ ◌+ℤ◌ (sum_in_at n h R (f h) w.home) (sum_in_at n p R (f p) w.port))
 
 -- A number that is 0 at every inner place.
 even : (h p v : ℕ) (x : ℤ) → ((v ≡ h → ⊥) → (v ≡ p → ⊥) → x ≡ pos 0) → cond (not (eqb v h) && not (eqb v p)) x (pos 0) ≡ pos 0
@@ -108,7 +108,7 @@ pub flow_through : (b : Board) (xs : List ℤ) (R : Region) → Network b → Fl
 flow_through b xs R w fl =
     let n = b.shape.places in
     let f = net b.routes xs in
-    let zero-inside : sum_in n R (innerly b f) ≡ pos 0 =
+    let zero_inside : sum_in n R (innerly b f) ≡ pos 0 =
     sum_in_same n R (innerly b f) (λ v. pos 0) (λ v l _. even b.shape.home b.shape.port v (f v) (fl.balanced v l)) ∙ sum_in_zero n R
     in
     let parts = ends_apart b R f w in

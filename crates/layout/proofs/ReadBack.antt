@@ -40,11 +40,11 @@ module _ (bits : List ℕ) (p : ℕ) (a b c d : Field) (na nb nc nd : ℕ) (rest
   moved : (q q' : ℕ) (xs : List ℕ) → drop q bits ≡ xs → q' ≡ q → drop q' bits ≡ xs
   moved q q' xs h g = ap (λ (x : ℕ). drop x bits) g ∙ h
 
-  pub four-stand :
+  pub four_stand :
       (stating bits p a ≡ na % 2 ^ width a) × (stating bits p b ≡ nb % 2 ^ width b) × (stating bits p c ≡ nc % 2 ^ width c) × (stating bits p d ≡ nd % 2 ^ width d)
       × (first_no (field_questions bits p (a ∷ b ∷ c ∷ d ∷ [])) ≡ None)
       × (drop (p + offset d + width d) bits ≡ rest)
-  four-stand =
+  four_stand =
       let ra = digits (width b) nb ++ (digits (width c) nc ++ (digits (width d) nd ++ rest)) in
       let rb = digits (width c) nc ++ (digits (width d) nd ++ rest) in
       let rc = digits (width d) nd ++ rest in
@@ -82,7 +82,7 @@ record_back bits s k r rest few v e =
     let top : r.floor ≤ℤ pos 4095 = omega (arith, ints, v.floor_high, v.ceiling_high) in
     let n = narrowed_lt r.floor v.floor_low top in
     let f =
-    four-stand bits (record_start k) Start End Floor Ceiling r.start r.end (narrowed r.floor) (nat_abs r.ceiling) rest refl refl refl refl
+    four_stand bits (record_start k) Start End Floor Ceiling r.start r.end (narrowed r.floor) (nat_abs r.ceiling) rest refl refl refl refl
     (omega arith) (omega arith) (omega arith) (omega arith) (e ∙ simp append_assoc)
     in
     let f₀ = f.0 ∙ mod-eq_of_lt {m = 2 ^ 7} (omega (arith, v.start_inside)) in
@@ -119,7 +119,7 @@ unfolding header_bits header_questions stated
 header_back bits entries b rest v room e =
     let w = v.frame in
     let f =
-    four-stand bits 0 Places Home Port Routes b.shape.places b.shape.home b.shape.port (length b.routes) rest refl refl refl refl
+    four_stand bits 0 Places Home Port Routes b.shape.places b.shape.home b.shape.port (length b.routes) rest refl refl refl refl
     (omega arith) (omega arith) (omega arith) (omega arith) (e ∙ simp append_assoc)
     in
     let f₀ = f.0 ∙ mod-eq_of_lt {m = 2 ^ 8} (omega (arith, w.few)) in

@@ -1,6 +1,6 @@
+// Frames, routes and sheets on examples: the worked ones, and every refusal with its bit.
 #![tactic(auto)]
 
-// Frames, routes and sheets on examples: the worked ones, and every refusal with its bit.
 #[cfg(test)]
 mod making;
 #[cfg(test)]

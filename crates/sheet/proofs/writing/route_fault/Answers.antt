@@ -12,7 +12,7 @@ returns c =
     let s = shape_of c.args.frame.now in
     let floor : SFits w16 r.floor = search rules in
     let ceiling : SFits w16 r.ceiling = search rules in
-    let wide-floor : SFits w32 r.floor = search rules in
-    let wide-ceiling : SFits w32 r.ceiling = search rules in
+    let wide_floor : SFits w32 r.floor = search rules in
+    let wide_ceiling : SFits w32 r.ceiling = search rules in
     let made : c.new.result ≡ route_answer s r.start r.end r.floor r.ceiling = simp to_z-of_z at c.new.ensures.answer in
     c.err.ensures.value ∙ ap result_err made ∙ err_part_answer (first_no (route_questions s r)) r

@@ -42,8 +42,8 @@ returns g c =
     let told = c.sift_down.ensures in
     let read : x ≡ get_or h.entries.now 0 x = cc in
     let first = held_read h 0 x (omega arith) read in
-    let read-last : y ≡ get_or h.entries.now (len - 1) y = cc in
-    let last = held_read h (len - 1) y (omega arith) read-last in
+    let read_last : y ≡ get_or h.entries.now (len - 1) y = cc in
+    let last = held_read h (len - 1) y (omega arith) read_last in
     let is = held_popped h len y c.len-len.ensures in
     let taken : IsPermutation xs (x ∷ take (len - 1) (set h.entries.now 0 y)) = rw is (shuffled_pop xs len x y c.len-len.ensures (omega arith) first last) in
     record {
