@@ -1,9 +1,9 @@
 -- The board that bits state, field by field.
---   stating    the number that a field states
---   route_at   the route that a record states
---   routes_from the routes of so many records
---   stated     the board that a sheet's bits state
---   nth        an element of a list by its number, if there is one
+--   stating       the number that a field states
+--   route_at      the route that a record states
+--   routes_from   the routes of so many records
+--   stated        the board that a sheet's bits state
+--   nth           an element of a list by its number, if there is one
 use Rattle.std.specs.Prelude.{ℕ, zero, suc, ◌+◌, List, [], ◌∷◌, pos, Some, None, Option}
 use Rattle.board.specs.Board.{Board}
 use Rattle.board.specs.declared.route.Route.{Route}
