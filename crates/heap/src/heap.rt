@@ -49,7 +49,7 @@ impl<'a, E: Entry> Heap<'a, E> {
     // Inserts an entry; gives it back where there is no room.
     pub fn push(&mut self, entry: E) -> Result<(), E>
         ensures accepts { is_ok result ≡ nat_lt (length (held self.old)) (room self.old) }
-        ensures held { Pushed before (held self.old) entry result (held self.new) }
+        ensures held { Pushed E.before (held self.old) entry result (held self.new) }
         ensures room { room self.new ≡ room self.old }
     {
         let len = self.len();
@@ -64,7 +64,7 @@ impl<'a, E: Entry> Heap<'a, E> {
 
     // Removes the first entry in their order.
     pub fn pop(&mut self) -> Option<E>
-        ensures held { Popped before (held self.old) result (held self.new) }
+        ensures held { Popped E.before (held self.old) result (held self.new) }
         ensures room { room self.new ≡ room self.old }
     {
         let len = self.len();
@@ -82,7 +82,7 @@ impl<'a, E: Entry> Heap<'a, E> {
     fn sift_up(&mut self, start: usize)
         requires { start < length (held self.old) }
         ensures held { IsPermutation (held self.old) (held self.new) }
-        ensures order { MayRise before (held self.old) start → Ordered before (held self.new) }
+        ensures order { MayRise E.before (held self.old) start → Ordered E.before (held self.new) }
         ensures room { room self.new ≡ room self.old }
     {
         let mut at = start;
@@ -101,7 +101,7 @@ impl<'a, E: Entry> Heap<'a, E> {
     // Moves the first entry down until none of its children comes earlier.
     fn sift_down(&mut self)
         ensures held { IsPermutation (held self.old) (held self.new) }
-        ensures order { MaySink before (held self.old) 0 → Ordered before (held self.new) }
+        ensures order { MaySink E.before (held self.old) 0 → Ordered E.before (held self.new) }
         ensures room { room self.new ≡ room self.old }
     {
         let mut at = 0;
@@ -118,7 +118,7 @@ impl<'a, E: Entry> Heap<'a, E> {
 
     // The child of an index whose entry comes no later than that of the other child, if it has a child.
     fn earlier_child(&self, at: usize) -> Option<usize>
-        ensures { EarlierChild before (held self.now) at result }
+        ensures { EarlierChild E.before (held self.now) at result }
     {
         let len = self.len();
         if at >= len / 2 {

@@ -6,7 +6,7 @@ use crate::entry::Entry;
 
 // What leaves a heap next is fixed by what is held: no two entries are first.
 pub fn first_is_one<E: Entry>() -> u8
-    ensures { OneFirst before }
+    ensures { OneFirst E.before }
 {
     0
 }

@@ -1,7 +1,7 @@
 -- What taking one place after another comes to.
-use Rattle.std.proofs.Common.{◌≡◌, ℕ, ◌+◌, ◌<◌, ◌≤◌, min, Some, None, sym, refl, ap, ◌∙◌, ⊎_elim, arith}
+use Rattle.std.proofs.Common.{◌≡◌, ℕ, ◌+◌, ◌<◌, ◌≤◌, min, Some, None, ap, ◌∙◌, ⊎_elim, arith}
 use Rattle.std.proofs.lemmas.Bool.{cases_lt}
-use Rattle.picker.specs.Meaning.{Meaning, nowhere, waiting, waiting_below, Took, drained}
+use Rattle.picker.specs.Meaning.{Meaning, waiting, waiting_below, Took, drained}
 use Rattle.picker.proofs.Waiting.{waiting_nowhere, waiting_less}
 
 -- where no place at or above 128 waits, a place that waits is below it

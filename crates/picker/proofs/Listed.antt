@@ -1,10 +1,10 @@
 -- The places of a list that wait: what inserting one and removing one do to the meaning.
-use Rattle.std.proofs.Common.{◌≡◌, ℕ, ◌+◌, ◌-◌, ◌<◌, ◌≤◌, Bool, true, false, cond, eqb, ltb, List, [], ◌∷◌, ◌++◌, length, Some, None, Ok, Err, sym, refl, ap, ◌∙◌, subst, ⊎_elim, arith}
+use Rattle.std.proofs.Common.{◌≡◌, ℕ, ◌<◌, ◌≤◌, cond, eqb, List, [], ◌∷◌, ◌++◌, length, Some, None, Ok, Err, sym, refl, ap, ◌∙◌, subst, ⊎_elim, arith}
 use Rattle.std.specs.List.Sorted.{IsPermutation}
 use Rattle.std.proofs.lemmas.List.Sorted.{sum_by-IsPermutation, IsPermutation-refl, IsPermutation-sym, IsPermutation-to_front}
 use Rattle.std.proofs.lemmas.List.Sums.{sum_by-cons}
 use Rattle.std.proofs.lemmas.Bool.{cases_lt, lt-ltb, le-ltb, ne_eqb, eq-eqb}
-use Rattle.picker.specs.Meaning.{Waits, nowhere, once, more, less, waiting_below, Meaning, waiting, put_answer, put_to, counted, Took, fresh, Inside, occurs, meaning_of}
+use Rattle.picker.specs.Meaning.{once, more, less, waiting_below, put_answer, put_to, counted, Took, fresh, Inside, occurs, meaning_of}
 use Rattle.picker.specs.declared.fault.PutFault.TheVariants.{PlaceUnknown, RoomFull}
 use Rattle.picker.proofs.Waiting.{waiting_nowhere, waiting_more}
 

@@ -16,7 +16,7 @@
 --   Lawful          no place at or above 128 waits, and the count stops
 --   occurs          how often each place stands in a list
 --   meaning_of      the meaning of a list of places that wait
-use Rattle.std.specs.Prelude.{◌≡◌, ℕ, zero, suc, ◌+◌, ◌-◌, ◌<◌, ◌≤◌, min, Bool, cond, List, is_ok, Some, None, Ok, Err, count_by, Option, Result, ◌==◌, nat_eq, nat_lt}
+use Rattle.std.specs.Prelude.{◌≡◌, ℕ, zero, suc, ◌+◌, ◌-◌, ◌<◌, ◌≤◌, min, cond, List, is_ok, Some, None, Ok, Err, count_by, Option, Result, ◌==◌, nat_eq, nat_lt}
 use Rattle.picker.specs.declared.fault.PutFault.{PutFault}
 use Rattle.picker.specs.declared.fault.PutFault.TheVariants.{PlaceUnknown, RoomFull}
 

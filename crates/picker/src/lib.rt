@@ -1,4 +1,6 @@
 // Pickers: what a picker means, and pickers that show it.
+#![tactic(auto)]
+
 pub mod drain;
 pub mod fault;
 pub mod newest_first;

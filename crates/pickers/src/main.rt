@@ -1,4 +1,6 @@
 // Puts the same places into each of the four pickers, and prints what each takes, in turn.
+#![tactic(auto)]
+
 ghost use Rattle.std.specs.Prelude.{◌≡◌, OnOk};
 ghost use Rattle.picker.specs.Meaning.{nowhere};
 ghost use Rattle.pickers.specs.All.{put_all};

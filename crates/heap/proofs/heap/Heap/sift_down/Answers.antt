@@ -1,7 +1,7 @@
 -- Each step down exchanges the sinking entry with the earlier of its children.
-use Rattle.std.proofs.Common.{◌≡◌, true, false, take, refl, ◌∙◌, arith, rules}
+use Rattle.std.proofs.Common.{◌≡◌, ◌<◌, true, false, take, refl, ◌∙◌, arith, rules}
 use Rattle.std.proofs.lemmas.List.Sorted.{IsPermutation-refl, IsPermutation-swap, IsPermutation-trans}
-use Rattle.heap.specs.Held.{held}
+use Rattle.heap.specs.Held.{held, room}
 use Rattle.heap.proofs.Moves.{held_within, held_compared, held_exchanged}
 use Rattle.heap.proofs.Sinking.{childless_in_order, rested_in_order, child_may_sink}
 use Rattle.heap.proofs.heap.Heap.sift_down.Goals as goal
@@ -12,7 +12,8 @@ loop-child-init g c = (refl, IsPermutation-refl (held c.args.self.now), λ s. s)
 pub offset_bounds-self-at : goal.offset_bounds-self-at
 offset_bounds-self-at g c =
     let e = c.in-Some.ensures in
-    let h = held_within c.loop-child.self c.loop-child.at (omega arith) in
+    let w = held_within c.loop-child.self c.loop-child.at (omega arith) in
+    let h : c.loop-child.at < room c.args.self.now = omega (arith, c.loop-child.invariant.0) in
     search rules
 
 pub bounds-self-at : goal.bounds-self-at
@@ -22,7 +23,8 @@ bounds-self-at g c =
 
 pub offset_bounds-self-child : goal.offset_bounds-self-child
 offset_bounds-self-child g c =
-    let h = held_within c.loop-child.self c.in-Some.child c.in-Some.ensures.1 in
+    let w = held_within c.loop-child.self c.in-Some.child c.in-Some.ensures.1 in
+    let h : c.in-Some.child < room c.args.self.now = omega (arith, c.loop-child.invariant.0) in
     search rules
 
 pub bounds-self-child : goal.bounds-self-child
@@ -50,8 +52,8 @@ swap-requires g c =
     let l = c.loop-child in
     let e = c.in-Some.ensures in
     record {
-      a-in-bounds = held_within l.self l.at (omega arith);
-      b-in-bounds = held_within l.self c.in-Some.child e.1;
+      a_in_bounds = held_within l.self l.at (omega arith);
+      b_in_bounds = held_within l.self c.in-Some.child e.1;
     }
 
 pub loop-child-smaller : goal.loop-child-smaller

@@ -1,8 +1,8 @@
 -- Each step up exchanges the rising entry with its parent.
-use Rattle.std.proofs.Common.{◌≡◌, true, false, length, take, refl, ap, ◌∙◌, arith, rules}
+use Rattle.std.proofs.Common.{◌≡◌, ◌<◌, true, false, length, take, refl, ap, ◌∙◌, arith, rules}
 use Rattle.std.proofs.lemmas.List.Edits.{length-swap}
 use Rattle.std.proofs.lemmas.List.Sorted.{IsPermutation-refl, IsPermutation-swap, IsPermutation-trans}
-use Rattle.heap.specs.Held.{held}
+use Rattle.heap.specs.Held.{held, room}
 use Rattle.heap.specs.Order.{parent}
 use Rattle.heap.proofs.Moves.{held_within, held_compared, held_exchanged}
 use Rattle.heap.proofs.Rising.{top_in_order, rested_in_order, parent_may_rise}
@@ -24,7 +24,8 @@ bounds-self-above g c =
 
 pub offset_bounds-self-at : goal.offset_bounds-self-at
 offset_bounds-self-at g c =
-    let h = held_within c.loop-at.self c.loop-at.at c.loop-at.invariant.0 in
+    let w = held_within c.loop-at.self c.loop-at.at c.loop-at.invariant.0 in
+    let h : c.loop-at.at < room c.args.self.now = omega (arith, c.loop-at.invariant.1) in
     search rules
 
 pub bounds-self-at : goal.bounds-self-at
@@ -47,8 +48,8 @@ swap-requires g c =
     let l = c.loop-at in
     let i = l.invariant.0 in
     record {
-      a-in-bounds = held_within l.self (parent l.at) (omega arith);
-      b-in-bounds = held_within l.self l.at i;
+      a_in_bounds = held_within l.self (parent l.at) (omega arith);
+      b_in_bounds = held_within l.self l.at i;
     }
 
 pub loop-at-preserved : goal.loop-at-preserved

@@ -5,7 +5,7 @@ use Rattle.picker.proofs.newest_first.NewestFirst.new.Goals as goal
 
 pub invariant_of-result : goal.invariant_of-result
 unfolding pile
-invariant_of-result c = (search rules, (search rules, (empty_inside _ refl, tt)))
+invariant_of-result c = record { few = search rules; stops = search rules; inside = empty_inside _ refl }
 
 pub returns : goal.returns
 unfolding pile

@@ -7,4 +7,8 @@ use Rattle.ranked.proofs.largest_amount.LargestAmount.new.Goals as goal
 pub invariant_of-result : goal.invariant_of-result
 invariant_of-result c =
     let none = c.new.ensures.held in
-    (search rules, (∣ nothing_ordered amount_before _ none ∣₁, (none_inside (λ e. e.place) _ none, tt)))
+    record {
+      stops = search rules;
+      ordered = ∣ nothing_ordered amount_before _ none ∣₁;
+      inside = none_inside (λ e. e.place) _ none;
+    }

@@ -8,4 +8,9 @@ use Rattle.ranked.proofs.lowest_marker.LowestMarker.new.Goals as goal
 pub invariant_of-result : goal.invariant_of-result
 invariant_of-result c =
     let none = c.new.ensures.held in
-    (search rules, (∣ nothing_ordered marker_before _ none ∣₁, (none_inside (λ e. e.place) _ none, (each_none marker_before (Marked c.args.markers.now) blank _ none, tt))))
+    record {
+      stops = search rules;
+      ordered = ∣ nothing_ordered marker_before _ none ∣₁;
+      inside = none_inside (λ e. e.place) _ none;
+      marked = each_none marker_before (Marked c.args.markers.now) blank _ none;
+    }

@@ -5,7 +5,7 @@ use Rattle.picker.proofs.newest_first.methods.NewestFirstPicker.empty.Goals as g
 
 pub invariant_of-self : goal.invariant_of-self
 unfolding pile
-invariant_of-self c = (search rules, (search rules, (empty_inside _ refl, tt)))
+invariant_of-self c = record { few = search rules; stops = search rules; inside = empty_inside _ refl }
 
 pub returns : goal.returns
 unfolding pile

@@ -22,7 +22,7 @@ invariant_of-self c =
     let p = c.args.self.now in
     let whole : length p.places ≡ 128 = search rules in
     let top = pile_put p.places p.waiting c.args.place (omega arith) in
-    (omega arith, (p.stops, (joined_inside c.args.place (stack p) _ p.inside c.if-place-ge-PLACES.false (unmoved _ _ top), tt)))
+    record { few = omega arith; stops = p.stops; inside = joined_inside c.args.place (stack p) _ p.inside c.if-place-ge-PLACES.false (unmoved _ _ top) }
 
 pub returns : goal.returns
 returns c =

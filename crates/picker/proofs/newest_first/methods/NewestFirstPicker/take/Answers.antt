@@ -16,7 +16,7 @@ pub invariant_of-self : goal.invariant_of-self
 invariant_of-self c =
     let p = c.args.self.now in
     let split = pile_take p.places p.waiting (omega arith) in
-    (omega arith, (omega arith, (left_inside _ (stack p) _ p.inside (unmoved _ _ (sym split)), tt)))
+    record { few = omega arith; stops = omega arith; inside = left_inside _ (stack p) _ p.inside (unmoved _ _ (sym split)) }
 
 pub returns : goal.returns
 returns c =

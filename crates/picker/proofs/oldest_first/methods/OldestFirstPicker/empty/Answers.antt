@@ -5,7 +5,7 @@ use Rattle.picker.proofs.oldest_first.methods.OldestFirstPicker.empty.Goals as g
 
 pub invariant_of-self : goal.invariant_of-self
 unfolding ring
-invariant_of-self c = (c.args.self.now.first_inside, (search rules, (search rules, (empty_inside _ refl, tt))))
+invariant_of-self c = record { first_inside = c.args.self.now.first_inside; few = search rules; stops = search rules; inside = empty_inside _ refl }
 
 pub returns : goal.returns
 unfolding ring

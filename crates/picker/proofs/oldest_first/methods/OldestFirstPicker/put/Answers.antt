@@ -21,7 +21,7 @@ pub invariant_of-self : goal.invariant_of-self
 invariant_of-self c =
     let p = c.args.self.now in
     let last = ring_put p.places p.first p.waiting c.args.place (search rules) c.if-self-ge-ROOM.false in
-    (omega arith, (omega arith, (p.stops, (joined_inside c.args.place (queue p) _ p.inside c.if-place-ge-PLACES.false (joined_last _ _ _ last), tt))))
+    record { first_inside = omega arith; few = omega arith; stops = p.stops; inside = joined_inside c.args.place (queue p) _ p.inside c.if-place-ge-PLACES.false (joined_last _ _ _ last) }
 
 pub returns : goal.returns
 returns c =

@@ -7,4 +7,8 @@ use Rattle.ranked.proofs.largest_amount.methods.LargestAmountPicker.empty.Goals 
 pub invariant_of-self : goal.invariant_of-self
 invariant_of-self c =
     let none = c.clear.ensures.held in
-    (search rules, (∣ nothing_ordered amount_before _ none ∣₁, (none_inside (λ e. e.place) _ none, tt)))
+    record {
+      stops = search rules;
+      ordered = ∣ nothing_ordered amount_before _ none ∣₁;
+      inside = none_inside (λ e. e.place) _ none;
+    }

@@ -9,7 +9,11 @@ invariant_of-self c =
     let p = c.args.self.now in
     let es = held p.heap in
     let told = c.push.ensures.held in
-    (p.stops, (pushed_ordered amount_before es _ _ c.push.result told p.ordered, (pushed_inside (λ e. e.place) amount_before es _ _ c.push.result told c.if-place-ge-PLACES.false p.inside, tt)))
+    record {
+      stops = p.stops;
+      ordered = pushed_ordered amount_before es _ _ c.push.result told p.ordered;
+      inside = pushed_inside (λ e. e.place) amount_before es _ _ c.push.result told c.if-place-ge-PLACES.false p.inside;
+    }
 
 pub returns-in-Ok : goal.returns-in-Ok
 returns-in-Ok c =

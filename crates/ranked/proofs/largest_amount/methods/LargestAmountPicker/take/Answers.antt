@@ -10,14 +10,22 @@ invariant_of-self c =
     let p = c.args.self.now in
     let es = held p.heap in
     let told = c.pop.ensures.held in
-    (p.stops, (popped_ordered amount_before es _ c.pop.result told p.ordered, (popped_inside (λ e. e.place) amount_before es _ c.pop.result told p.inside, tt)))
+    record {
+      stops = p.stops;
+      ordered = popped_ordered amount_before es _ c.pop.result told p.ordered;
+      inside = popped_inside (λ e. e.place) amount_before es _ c.pop.result told p.inside;
+    }
 
 pub invariant_of-self-2 : goal.invariant_of-self-2
 invariant_of-self-2 c =
     let p = c.args.self.now in
     let es = held p.heap in
     let told = c.pop.ensures.held in
-    (omega arith, (popped_ordered amount_before es _ c.pop.result told p.ordered, (popped_inside (λ e. e.place) amount_before es _ c.pop.result told p.inside, tt)))
+    record {
+      stops = omega arith;
+      ordered = popped_ordered amount_before es _ c.pop.result told p.ordered;
+      inside = popped_inside (λ e. e.place) amount_before es _ c.pop.result told p.inside;
+    }
 
 pub returns-in_err-entry : goal.returns-in_err-entry
 returns-in_err-entry c =

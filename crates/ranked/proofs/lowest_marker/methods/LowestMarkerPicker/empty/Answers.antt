@@ -8,4 +8,9 @@ use Rattle.ranked.proofs.lowest_marker.methods.LowestMarkerPicker.empty.Goals as
 pub invariant_of-self : goal.invariant_of-self
 invariant_of-self c =
     let none = c.clear.ensures.held in
-    (search rules, (∣ nothing_ordered marker_before _ none ∣₁, (none_inside (λ e. e.place) _ none, (each_none marker_before (Marked c.args.self.now.markers.now) blank _ none, tt))))
+    record {
+      stops = search rules;
+      ordered = ∣ nothing_ordered marker_before _ none ∣₁;
+      inside = none_inside (λ e. e.place) _ none;
+      marked = each_none marker_before (Marked c.args.self.now.markers.now) blank _ none;
+    }

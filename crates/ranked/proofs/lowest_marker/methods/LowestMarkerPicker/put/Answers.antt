@@ -11,7 +11,12 @@ invariant_of-self c =
     let p = c.args.self.now in
     let es = held p.heap in
     let told = c.push.ensures.held in
-    (p.stops, (pushed_ordered marker_before es _ _ c.push.result told p.ordered, (pushed_inside (λ e. e.place) marker_before es _ _ c.push.result told c.if-place-ge-PLACES.false p.inside, (pushed_each marker_before (Marked p.markers.now) blank es _ _ c.push.result told c.marker.ensures p.marked, tt))))
+    record {
+      stops = p.stops;
+      ordered = pushed_ordered marker_before es _ _ c.push.result told p.ordered;
+      inside = pushed_inside (λ e. e.place) marker_before es _ _ c.push.result told c.if-place-ge-PLACES.false p.inside;
+      marked = pushed_each marker_before (Marked p.markers.now) blank es _ _ c.push.result told c.marker.ensures p.marked;
+    }
 
 pub returns-in-Ok : goal.returns-in-Ok
 returns-in-Ok c =
