@@ -33,7 +33,7 @@ const MARKERS: [u8; 8] = [3, 0, 2, 9, 9, 1, 0, 2];
 
 // Puts places with their amounts, one after the other, until one is refused.
 fn put_all<P: Picker>(picker: &mut P, places: &[(u8, u32)]) -> Result<(), PutFault>
-    ensures { OnOk result (meaning picker.new ≡ put_all (meaning picker.old) places.now) }
+    ensures { OnOk result (P.meaning picker.new ≡ put_all (P.meaning picker.old) places.now) }
 {
     for item in places {
         let (place, amount) = *item;
@@ -44,7 +44,7 @@ fn put_all<P: Picker>(picker: &mut P, places: &[(u8, u32)]) -> Result<(), PutFau
 
 // A name, and then what a picker takes until nothing waits.
 fn taken_line<P: Picker>(heap: Global, name: &str, picker: &mut P) -> Result<String, AllocError>
-    ensures { OnOk result ((meaning picker.new).waits ≡ nowhere) }
+    ensures { OnOk result ((P.meaning picker.new).waits ≡ nowhere) }
 {
     let mut line = String::from_str(heap, name)?;
     while let Some(place) = picker.take() {

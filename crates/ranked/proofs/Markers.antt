@@ -3,7 +3,7 @@ use Rattle.std.proofs.Common.{◌≡◌, ℕ, ◌<◌, true, List, map, length, 
 use Rattle.std.specs.List.{AllByRecursion as All}
 use Rattle.std.proofs.ByRecursion.{All-get_or, All-from_get_or, All-map}
 use Rattle.heap.specs.Order.{First}
-use Rattle.ranked.specs.Orders.{marker_of, Marked, marker_before}
+use Rattle.ranked.specs.Orders.{Marked, marker_before}
 use Rattle.ranked.specs.Ranked.{lower}
 use Rattle.ranked.specs.declared.marker_entry.MarkerEntry.{MarkerEntry}
 

@@ -8,7 +8,7 @@ use Rattle.std.proofs.lemmas.List.Sorted.{IsPermutation-refl, IsPermutation-tran
 use Rattle.std.proofs.lemmas.Bool.{ltb-true, ltb-false}
 use Rattle.heap.specs.Order.{Pushed, Popped}
 use Rattle.picker.specs.Meaning.{put_answer, put_to, counted, Took, Inside, occurs, meaning_of}
-use Rattle.picker.specs.declared.fault.PutFault.TheVariants.{PlaceUnknown, RoomFull}
+use Rattle.picker.specs.declared.fault.PutFault.TheVariants.{RoomFull}
 use Rattle.picker.proofs.Listed.{put_full, put_accepted, took_none, took_some, joined_inside, left_inside, empty_inside}
 
 module _ {E : Type 0} (place : E → ℕ) where

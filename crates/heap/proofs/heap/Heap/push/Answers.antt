@@ -1,5 +1,5 @@
 -- The entry is put behind those held, and rises.
-use Rattle.std.proofs.Common.{length, take, set, sym, ap, ◌∙◌, arith}
+use Rattle.std.proofs.Common.{length, sym, ap, ◌∙◌, arith}
 use Rattle.std.proofs.lemmas.List.{length_push, length-set}
 use Rattle.std.proofs.lemmas.List.Sorted.{IsPermutation-trans}
 use Rattle.std.proofs.lemmas.Bool.{lt-ltb}
