@@ -6,7 +6,7 @@
 --   Popped    what removing the first does
 use Rattle.std.specs.Prelude.{◌≡◌, ℕ, ◌-◌, ◌/◌, ◌<◌, Bool, true, List, [], ◌∷◌, length, Some, None, Ok, Err, Option, Result, slice_index_or}
 use Rattle.std.specs.List.Sorted.{IsPermutation}
-use Rattle.std.specs.List.{AllByRecursion as All}
+use Rattle.std.specs.List.{AllByRecursion}
 
 -- The index above an index, in a binary tree that lies in a list row by row.
 abbrev pub parent : ℕ → ℕ
@@ -19,7 +19,7 @@ module _ {E : Type 0} (before : E → E → Bool) where
 
   -- An entry that comes no later than any of a list.
   abbrev pub First : E → List E → Type 0
-  First x xs = All (λ y. before x y ≡ true) xs
+  First x xs = AllByRecursion (λ y. before x y ≡ true) xs
 
   -- Inserting x: accepted, just x joins what is held, and order stays; refused, x comes back and what is held stays.
   abbrev pub Pushed : List E → E → Result (Unit {0}) E → List E → Type 0

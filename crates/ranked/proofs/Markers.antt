@@ -1,6 +1,6 @@
 -- The entry that comes first by its marker stands for the place with the lowest marker.
 use Rattle.std.proofs.Common.{◌≡◌, ℕ, ◌<◌, true, List, map, length, get_or}
-use Rattle.std.specs.List.{AllByRecursion as All}
+use Rattle.std.specs.List.{AllByRecursion}
 use Rattle.std.proofs.ByRecursion.{All-get_or, All-from_get_or, All-map}
 use Rattle.heap.specs.Order.{First}
 use Rattle.ranked.specs.Orders.{Marked, marker_before}
@@ -17,7 +17,7 @@ lower_from_before markers x y mx my h = cc
 
 pub lowest_from_first : (markers : List ℕ) (x : MarkerEntry) (xs : List MarkerEntry)
     → ((k : ℕ) → k < length xs → Marked markers (get_or xs k blank)) → Marked markers x → First marker_before x xs
-    → All (λ q. lower markers x.place q ≡ true) (map (λ e. e.place) xs)
+    → AllByRecursion (λ q. lower markers x.place q ≡ true) (map (λ e. e.place) xs)
 lowest_from_first markers x xs each mx first =
     All-map (λ q. lower markers x.place q ≡ true) (λ e. e.place) xs
     (All-from_get_or (λ y. lower markers x.place y.place ≡ true) xs blank

@@ -7,7 +7,7 @@
 --   marker_meaning, amount_meaning   what these pickers mean
 use Rattle.std.specs.Prelude.{◌≡◌, ℕ, Bool, true, cond, List, [], ◌∷◌, map, Some, None, Ok, Err, Option, Result, ◌==◌, nat_le, nat_lt}
 use Rattle.std.specs.List.Sorted.{IsPermutation}
-use Rattle.std.specs.List.{AllByRecursion as All}
+use Rattle.std.specs.List.{AllByRecursion}
 use Rattle.heap.specs.Held.{held, room}
 use Rattle.picker.specs.Meaning.{Meaning, meaning_of}
 use Rattle.ranked.specs.Orders.{marker_of, amount_before}
@@ -29,14 +29,14 @@ lower markers p q =
 -- once, the others stay, and it comes no later than any that waited.
 abbrev pub LowestTaken : List ℕ → List ℕ → Option ℕ → List ℕ → Type 0
 LowestTaken markers xs None ys = (xs ≡ []) × (ys ≡ [])
-LowestTaken markers xs (Some p) ys = IsPermutation xs (p ∷ ys) × All (λ q. lower markers p q ≡ true) xs
+LowestTaken markers xs (Some p) ys = IsPermutation xs (p ∷ ys) × AllByRecursion (λ q. lower markers p q ≡ true) xs
 
 -- Taking by the greatest amount, ties to the lowest place: none where nothing waits; otherwise a place leaves with the
 -- amount that it was put with, the others stay, and it comes no later than any that waited.
 abbrev pub LargestTaken : List AmountEntry → Option ℕ → List AmountEntry → Type 0
 LargestTaken xs None ys = (xs ≡ []) × (ys ≡ [])
 LargestTaken xs (Some p) ys =
-    (a : ℕ) × IsPermutation xs (record { amount = a; place = p } ∷ ys) × All (λ y. amount_before (record { amount = a; place = p }) y ≡ true) xs
+    (a : ℕ) × IsPermutation xs (record { amount = a; place = p } ∷ ys) × AllByRecursion (λ y. amount_before (record { amount = a; place = p }) y ≡ true) xs
 
 -- The places that wait in a picker by markers, in no order.
 abbrev pub marker_places : LowestMarker → List ℕ
