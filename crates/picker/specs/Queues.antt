@@ -1,7 +1,7 @@
 -- The places that wait in a queue, in the order in which it gives them back.
 --   queue, stack                     the places in a picker that takes the oldest, or the newest, first
 --   oldest_meaning, newest_meaning   what these pickers mean
---   head_of, tail_of  the first of a list, if it has one, and the others
+--   head_of, tail_of                 the first of a list, if it has one, and the others
 use Rattle.std.specs.Prelude.{ℕ, List, [], ◌∷◌, Some, None, Option}
 use Rattle.picker.specs.Arrays.{ring, pile}
 use Rattle.picker.specs.Meaning.{Meaning, meaning_of}
