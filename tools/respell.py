@@ -23,7 +23,7 @@ COLUMN = re.compile(r"^--   (\S(?:.*?\S)?)   +(\S.*)$")
 
 def files():
     out = subprocess.run(["git", "ls-files"], capture_output=True, text=True, check=True).stdout.split("\n")
-    return [f for f in out if f.startswith(("crates/", "docs/")) and f.endswith((".antt", ".rt", ".edit", ".md"))] + ["README.md"]
+    return [f for f in out if f.startswith(("crates/", "docs/")) and f.endswith((".antt", ".rt", ".edit", ".md")) and f != "docs/PORT.md"] + ["README.md"]
 
 
 def snake(word):
