@@ -3,6 +3,5 @@ pub mod Bits
 pub mod Bytes
 pub mod Cuts
 pub mod Fields
-pub mod Taken
 pub mod TwosComplement
 pub mod Window

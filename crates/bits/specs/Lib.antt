@@ -2,4 +2,5 @@
 pub mod Bits
 pub mod Fields
 pub mod Signed
+pub mod Cursor
 pub mod Reading

@@ -1,9 +1,15 @@
--- What a bit reader answers.
+-- What a bit reader answers, and where it stands then.
 --   taken   the number that a field states, or the bit where it begins where its bits are not all there
-use Rattle.std.specs.Prelude.{ℕ, cond, List, length, Ok, Err, Result}
+--   moved   so many bits further on
+use Rattle.std.specs.Prelude.{ℕ, ◌+◌, cond, length, Ok, Err, Result}
 use Rattle.bits.specs.Bits.{field_at, within}
+use Rattle.bits.specs.Cursor.{Cursor}
 use Rattle.bits.specs.declared.fault.BitFault.{BitFault}
 
--- The number that the w bits from bit p on state; or p, where they are not all there.
-abbrev pub taken : List ℕ → ℕ → ℕ → Result ℕ BitFault
-taken bits p w = cond (within (length bits) p w) (Ok (field_at bits p w)) (Err (record { bit = p }))
+-- The number that the next w bits state; or where they begin, where they are not all there.
+abbrev pub taken : Cursor → ℕ → Result ℕ BitFault
+taken c w = cond (within (length c.bits) c.position w) (Ok (field_at c.bits c.position w)) (Err (record { bit = c.position }))
+
+-- The next field begins w bits further on.
+abbrev pub moved : Cursor → ℕ → Cursor
+moved c w = record { bits = c.bits; position = c.position + w }

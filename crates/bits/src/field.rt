@@ -50,15 +50,14 @@ impl Field {
 pub fn record_start(route: u16) -> usize
     ensures { result ≡ record_start route }
 {
-    32 + 39 * route as usize
+    32 + 39 * usize::from(route)
 }
 
 // The bit after a field that begins at bit `start`, where all of its bits lie in so many bytes, and that bit has a number.
 pub fn end_of(field: Field, start: usize, bytes: usize) -> Option<usize>
     ensures { result ≡ (if within (8 * bytes) start (width field) then Some (start + width field) else None) }
 {
-    match start.checked_add(field.width()) {
-        Some(end) if (end - 1) / 8 < bytes => Some(end),
-        _ => None,
-    }
+    start
+        .checked_add(field.width())
+        .filter(|end| (end - 1) / 8 < bytes)
 }

@@ -1,24 +1,34 @@
 // Reading fields over lent bytes.
-ghost use Rattle.std.specs.Prelude.{◌≡◌, ◌+◌, ◌^◌, ◌<◌, is_ok, IfOk, if◌then◌else◌, slice_index};
+ghost use Rattle.std.specs.Prelude.{◌≡◌, ◌^◌, ◌<◌, is_ok, IfOk, if◌then◌else◌, slice_index};
 ghost use Rattle.bits.specs.Bits.{bits_of, field_at};
 ghost use Rattle.bits.specs.Fields.{width};
-ghost use Rattle.bits.specs.Reading.{taken};
+ghost use Rattle.bits.specs.Reading.{taken, moved};
 
 use crate::fault::BitFault;
 use crate::field::{Field, end_of};
+use std::marker::Model;
 
-// Bytes, and the bit where the next field begins.
+// Bytes, and the bit where the next field begins. In a clause a reader is the bits of the bytes and that place.
 #[derive(Drop)]
 pub struct BitReader<'a> {
     bytes: &'a [u8],
     position: usize,
 }
 
+impl<'a> Model for BitReader<'a> {
+    ghost use Rattle.bits.specs.Bits.{bits_of};
+    ghost use Rattle.bits.specs.Cursor.{Cursor};
+
+    ghost Value = { Cursor };
+
+    ghost view = { λ r. record { bits = bits_of r.bytes.now; position = r.position } };
+}
+
 // The byte at an index; past the end it is 0.
 fn byte_at(bytes: &[u8], index: usize) -> u8
     ensures { result ≡ slice_index bytes.now index }
 {
-    if index < bytes.len() { bytes[index] } else { 0 }
+    bytes.get(index).copied().unwrap_or(0)
 }
 
 // The number that a field states which begins at bit `start`; a bit past the end counts as 0.
@@ -39,18 +49,17 @@ pub fn field_at(bytes: &[u8], start: usize, field: Field) -> u16
 impl<'a> BitReader<'a> {
     // A reader at bit 0.
     pub fn new(bytes: &'a [u8]) -> BitReader<'a>
-        ensures bytes { result.bytes.now ≡ bytes.now }
-        ensures position { result.position ≡ 0 }
+        ensures { result ≡ record { bits = bits_of bytes.now; position = 0 } }
     {
         BitReader { bytes, position: 0 }
     }
 
-    // The number that the next bits state; or the bit where they begin, and then the reader has not moved.
+    // The number that the next bits state, and then the reader stands behind them; or the bit where they begin, and
+    // then it has not moved.
     pub fn take(&mut self, field: Field) -> Result<u16, BitFault>
-        ensures answer { result ≡ taken (bits_of self.old.bytes.now) self.old.position (width field) }
+        ensures answer { result ≡ taken self.old (width field) }
         ensures bound { IfOk result (λ n. n < 2 ^ width field) }
-        ensures position { self.new.position ≡ (if is_ok result then self.old.position + width field else self.old.position) }
-        ensures bytes { self.new.bytes.now ≡ self.old.bytes.now }
+        ensures reader { self.new ≡ (if is_ok result then moved self.old (width field) else self.old) }
     {
         let start = self.position;
         let Some(end) = end_of(field, start, self.bytes.len()) else {

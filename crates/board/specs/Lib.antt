@@ -1,3 +1,4 @@
 -- The specifications of frames, routes and boards.
+pub mod Shape
 pub mod Board
 pub mod Questions
