@@ -1,8 +1,8 @@
 -- Where reading stands.
---   Cursor   bits, and the bit where the next field begins
+--   Cursor   bytes, and the bit where the next field begins
 use Rattle.std.specs.Prelude.{ℕ, List}
 
--- The bits that are read, and where in them the next field begins.
+-- The bytes that are read, and the bit of them where the next field begins.
 pub record Cursor : Type 0 where
-  pub bits : List ℕ
+  pub bytes : List ℕ
   pub position : ℕ

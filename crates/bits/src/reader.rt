@@ -8,7 +8,7 @@ use crate::fault::BitFault;
 use crate::field::{Field, end_of};
 use std::marker::Model;
 
-// Bytes, and the bit where the next field begins. In a clause a reader is the bits of the bytes and that place.
+// Bytes, and the bit where the next field begins. In a clause a reader is a cursor of these two.
 #[derive(Drop)]
 pub struct BitReader<'a> {
     bytes: &'a [u8],
@@ -16,12 +16,11 @@ pub struct BitReader<'a> {
 }
 
 impl<'a> Model for BitReader<'a> {
-    ghost use Rattle.bits.specs.Bits.{bits_of};
     ghost use Rattle.bits.specs.Cursor.{Cursor};
 
     ghost Value = { Cursor };
 
-    ghost view = { λ r. record { bits = bits_of r.bytes.now; position = r.position } };
+    ghost view = { λ r. record { bytes = r.bytes.now; position = r.position } };
 }
 
 // The byte at an index; past the end it is 0.
@@ -49,7 +48,7 @@ pub fn field_at(bytes: &[u8], start: usize, field: Field) -> u16
 impl<'a> BitReader<'a> {
     // A reader at bit 0.
     pub fn new(bytes: &'a [u8]) -> BitReader<'a>
-        ensures { result ≡ record { bits = bits_of bytes.now; position = 0 } }
+        ensures { result ≡ record { bytes = bytes.now; position = 0 } }
     {
         BitReader { bytes, position: 0 }
     }

@@ -3,7 +3,6 @@
 --   route_at      the route that a record states
 --   routes_from   the routes of so many records
 --   stated        the board that a sheet's bits state
---   nth           an element of a list by its number, if there is one
 use Rattle.std.specs.Prelude.{ℕ, zero, suc, ◌+◌, List, [], ◌∷◌, pos, Some, None, Option}
 use Rattle.board.specs.Board.{Board}
 use Rattle.board.specs.declared.route.Route.{Route}
@@ -39,9 +38,3 @@ stated bits =
       shape = record { places = stating bits 0 Places; home = stating bits 0 Home; port = stating bits 0 Port };
       routes = routes_from bits 0 (stating bits 0 Routes);
     }
-
--- The element of a list with this number, counted from 0; none past the end.
-abbrev pub nth : {X : Type 0} → List X → ℕ → Option X
-nth [] k = None
-nth (x ∷ xs) zero = Some x
-nth (x ∷ xs) (suc k) = nth xs k

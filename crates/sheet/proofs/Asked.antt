@@ -1,103 +1,123 @@
 -- What taking fields one after the other says about the questions on them.
-use Rattle.std.proofs.Common.{◌≡◌, ℕ, ◌+◌, ◌^◌, ◌<◌, Bool, true, false, cond, ◌&&◌, ltb, List, [], ◌∷◌, Some, None, Ok, Err, Option, sym, refl, ap, ◌∙◌, ap₂, arith}
+use Rattle.std.proofs.Common.{◌≡◌, ℕ, ◌+◌, ◌^◌, ◌<◌, ◌≤◌, Bool, true, false, cond, ◌&&◌, leb, ltb, List, [], ◌∷◌, ◌++◌, length, get_or, take, drop, set, map, sum_by, Some, Ok, Err, Option, refl, sym, subst, ap, ◌∙◌, ap₂, add-zero, arith}
 use Rattle.std.proofs.lemmas.Bool.{lt-ltb}
+use Rattle.std.proofs.lemmas.List.{drop_more, drop_all, take_more, take_all, take_more_set, map-append}
+use Rattle.std.proofs.lemmas.List.Sums.{sum_by_push}
 use Rattle.board.specs.Questions.{first_no, answer}
-use Rattle.sheet.specs.Four.{InTurn, four_answer}
+use Rattle.bits.specs.Reading.{moved}
+use Rattle.sheet.specs.Taking.{InTurn, fields_answer}
+use Rattle.bits.proofs.Bits.{length_bits_of}
 use Rattle.bits.proofs.Fields.{width_le, offset_le}
-use Rattle.bits.specs.Bits.{bits_of, field_at, held}
+use Rattle.bits.specs.Bits.{bits_of, held}
+use Rattle.bits.specs.Cursor.{Cursor}
 use Rattle.bits.specs.Fields.{width, offset}
-use Rattle.layout.specs.Questions.{field_questions}
 use Rattle.bits.specs.Reading.{taken}
-use Rattle.layout.specs.Stated.{stating}
 use Rattle.bits.specs.declared.fault.BitFault.{BitFault}
 use Rattle.bits.specs.declared.field.Field.{Field}
-
--- what `take` ensures where it answers n: of a reader over the bytes b at bit q, which is over b' at q' then
-abbrev pub Took : List ℕ → ℕ → ℕ → ℕ → List ℕ → ℕ → Type 0
-Took b q w n b' q' = record { answer : Ok n ≡ taken (bits_of b) q w; bound : n < 2 ^ w; position : q' ≡ q + w; bytes : b' ≡ b }
+use Rattle.layout.specs.Questions.{field_questions}
+use Rattle.layout.specs.Stated.{stating}
 
 -- the number taken, or the fault, by whether the bits are there
 by_held : (b v : Bool) (n : ℕ) (x : ℕ) (f : BitFault) → v ≡ true → Ok n ≡ cond (b && v) (Ok x) (Err f) → (b ≡ true) × (n ≡ x)
-by_held true true n x f h t = (refl, cc)
-by_held true false n x f h t = let z : ◌≡◌ {A = ℕ} 0 1 = cc in absurd (omega arith)
-by_held false v n x f h t = let z : ◌≡◌ {A = ℕ} 0 1 = cc in absurd (omega arith)
+by_held b v n x f h t = grind arith
 
 by_missing : (b v : Bool) (x : ℕ) (f e : BitFault) → v ≡ true → Err e ≡ cond (b && v) (Ok x) (Err f) → (b ≡ false) × (e ≡ f)
-by_missing true true x f e h t = let z : ◌≡◌ {A = ℕ} 0 1 = cc in absurd (omega arith)
-by_missing true false x f e h t = let z : ◌≡◌ {A = ℕ} 0 1 = cc in absurd (omega arith)
-by_missing false v x f e h t = (refl, cc)
+by_missing b v x f e h t = grind arith
 
-abbrev quad : ℕ → ℕ → ℕ → ℕ → ℕ × ℕ × ℕ × ℕ
-quad a b c d = (a, b, c, d)
+abbrev pub cursor : List ℕ → ℕ → Cursor
+cursor bytes n = record { bytes = bytes; position = n }
 
-abbrev short_at : ℕ → BitFault
-short_at p = record { bit = p }
+-- a field of the header or record that begins at bit p, taken where it stands
+module _ (bytes : List ℕ) (p q : ℕ) (f : Field) (fs : List Field) (small : p < 2 ^ 32) (here : q ≡ p + offset f) where
+  abbrev bits : List ℕ
+  bits = bits_of bytes
 
-module _ (b : List ℕ) (p : ℕ) (small : p < 2 ^ 32) where
   abbrev asked : List Field → Option BitFault
-  asked fs = first_no (field_questions (bits_of b) p fs)
+  asked gs = first_no (field_questions bits p gs)
 
-  reach : (f : Field) → ltb (p + offset f + width f) (2 ^ 64) ≡ true
-  reach f = lt-ltb (p + offset f + width f) (2 ^ 64) (omega (arith, width_le f, offset_le f))
+  abbrev short : BitFault
+  short = record { bit = p + offset f }
 
-  yes_step : (f : Field) (fs : List Field) (q n : ℕ) (b₁ b₂ : List ℕ) (q₂ : ℕ) → b₁ ≡ b → q ≡ p + offset f → Took b₁ q (width f) n b₂ q₂
-      → (asked (f ∷ fs) ≡ asked fs) × (n ≡ stating (bits_of b) p f) × (b₂ ≡ b) × (q₂ ≡ p + offset f + width f)
-  yes_step f fs q n b₁ b₂ q₂ eb eq t =
-      let a : Ok n ≡ taken (bits_of b) (p + offset f) (width f) = t.answer ∙ ap (λ (x : List ℕ). taken (bits_of x) q (width f)) eb ∙ ap (λ (x : ℕ). taken (bits_of b) x (width f)) eq in
-      let h =
-      by_held (held (bits_of b) (p + offset f) (width f)) (ltb (p + offset f + width f) (2 ^ 64)) n (field_at (bits_of b) (p + offset f) (width f))
-      (short_at (p + offset f)) (reach f) a
-      in
-      (ap (λ (x : Bool). cond x (asked fs) (Some (short_at (p + offset f)))) h.0, h.1, t.bytes ∙ eb, t.position ∙ ap (λ (x : ℕ). x + width f) eq)
+  reach : ltb (p + offset f + width f) (2 ^ 64) ≡ true
+  reach = lt-ltb (p + offset f + width f) (2 ^ 64) (omega (arith, width_le f, offset_le f))
 
-  no_step : (f : Field) (fs : List Field) (q : ℕ) (e : BitFault) (b₁ : List ℕ) → b₁ ≡ b → q ≡ p + offset f → Err e ≡ taken (bits_of b₁) q (width f)
-      → asked (f ∷ fs) ≡ Some e
-  no_step f fs q e b₁ eb eq t =
-      let a : Err e ≡ taken (bits_of b) (p + offset f) (width f) = t ∙ ap (λ (x : List ℕ). taken (bits_of x) q (width f)) eb ∙ ap (λ (x : ℕ). taken (bits_of b) x (width f)) eq in
-      let h =
-      by_missing (held (bits_of b) (p + offset f) (width f)) (ltb (p + offset f + width f) (2 ^ 64)) (field_at (bits_of b) (p + offset f) (width f))
-      (short_at (p + offset f)) e (reach f) a
-      in
-      ap (λ (x : Bool). cond x (asked fs) (Some (short_at (p + offset f)))) h.0 ∙ ap (λ (x : BitFault). Some x) (sym h.1)
+  -- what a reader there takes, by whether the bits are there
+  by_bits : taken (cursor bytes q) (width f)
+      ≡ cond (held bits (p + offset f) (width f) && ltb (p + offset f + width f) (2 ^ 64)) (Ok (stating bits p f)) (Err short)
+  by_bits = ap (λ (x : ℕ). taken (cursor bytes x) (width f)) here ∙ ap (λ (n : ℕ). cond (leb (p + offset f + width f) n && ltb (p + offset f + width f) (2 ^ 64)) (Ok (stating bits p f)) (Err short)) (sym (length_bits_of bytes))
 
-  -- four fields, each beginning where the one before ends
-  module _ (f₀ f₁ f₂ f₃ : Field) (turn : InTurn f₀ f₁ f₂ f₃) where
-    abbrev pub four : Option BitFault
-    four = asked (f₀ ∷ f₁ ∷ f₂ ∷ f₃ ∷ [])
+  pub field_there : (n : ℕ) → Ok n ≡ taken (cursor bytes q) (width f) → (asked (f ∷ fs) ≡ asked fs) × (n ≡ stating bits p f)
+  field_there n t =
+      let h = by_held (held bits (p + offset f) (width f)) (ltb (p + offset f + width f) (2 ^ 64)) n (stating bits p f) short reach (t ∙ by_bits) in
+      (ap (λ (x : Bool). cond x (asked fs) (Some short)) h.0, h.1)
 
-    pub first_missing : (e : BitFault) → Err e ≡ taken (bits_of b) p (width f₀) → four ≡ Some e
-    first_missing e t = no_step f₀ (f₁ ∷ f₂ ∷ f₃ ∷ []) p e b refl (omega arith) t
+  pub field_missing : (e : BitFault) → Err e ≡ taken (cursor bytes q) (width f) → asked (f ∷ fs) ≡ Some e
+  field_missing e t =
+      let h = by_missing (held bits (p + offset f) (width f)) (ltb (p + offset f + width f) (2 ^ 64)) (stating bits p f) short e reach (t ∙ by_bits) in
+      ap (λ (x : Bool). cond x (asked fs) (Some short)) h.0 ∙ ap (λ (x : BitFault). Some x) (sym h.1)
 
-    module _ (n₀ : ℕ) (b₁ : List ℕ) (q₁ : ℕ) (t₀ : Took b p (width f₀) n₀ b₁ q₁) where
-      s₀ : (four ≡ asked (f₁ ∷ f₂ ∷ f₃ ∷ [])) × (n₀ ≡ stating (bits_of b) p f₀) × (b₁ ≡ b) × (q₁ ≡ p + offset f₀ + width f₀)
-      s₀ = yes_step f₀ (f₁ ∷ f₂ ∷ f₃ ∷ []) p n₀ b b₁ q₁ refl (omega arith) t₀
+-- the first k of some fields are taken: the reader stands behind them, their numbers are there, and the first field
+-- that is missing is among those that are left
+pub record Taking (c : Cursor) (fs : List Field) (k : ℕ) (now : Cursor) (numbers : List ℕ) : Type 0 where
+  pub reader : now ≡ moved c (sum_by width (take k fs))
+  pub turn : InTurn (sum_by width (take k fs)) (drop k fs)
+  pub left : first_no (field_questions (bits_of c.bytes) c.position (drop k fs)) ≡ first_no (field_questions (bits_of c.bytes) c.position fs)
+  pub taken_so_far : take k numbers ≡ map (stating (bits_of c.bytes) c.position) (take k fs)
 
-      pub second_missing : (e : BitFault) → Err e ≡ taken (bits_of b₁) q₁ (width f₁) → four ≡ Some e
-      second_missing e t = s₀.0 ∙ no_step f₁ (f₂ ∷ f₃ ∷ []) q₁ e b₁ s₀.2 (omega (arith, s₀.3)) t
+pub taking_none : (c : Cursor) (fs : List Field) (numbers : List ℕ) → InTurn 0 fs → Taking c fs 0 c numbers
+taking_none c fs numbers t =
+    record { reader = ap (λ (x : ℕ). cursor c.bytes x) (sym (add-zero c.position)); turn = t; left = refl; taken_so_far = refl }
 
-      module _ (n₁ : ℕ) (b₂ : List ℕ) (q₂ : ℕ) (t₁ : Took b₁ q₁ (width f₁) n₁ b₂ q₂) where
-        s₁ : (asked (f₁ ∷ f₂ ∷ f₃ ∷ []) ≡ asked (f₂ ∷ f₃ ∷ [])) × (n₁ ≡ stating (bits_of b) p f₁) × (b₂ ≡ b) × (q₂ ≡ p + offset f₁ + width f₁)
-        s₁ = yes_step f₁ (f₂ ∷ f₃ ∷ []) q₁ n₁ b₁ b₂ q₂ s₀.2 (omega (arith, s₀.3)) t₁
+module _ (c : Cursor) (fs : List Field) (k : ℕ) (now : Cursor) (numbers : List ℕ) (d : Field) (so_far : Taking c fs k now numbers) where
+  module _ (small : c.position < 2 ^ 32) (inside : k < length fs) where
+    abbrev here : Field
+    here = get_or fs k d
 
-        pub third_missing : (e : BitFault) → Err e ≡ taken (bits_of b₂) q₂ (width f₂) → four ≡ Some e
-        third_missing e t = s₀.0 ∙ s₁.0 ∙ no_step f₂ (f₃ ∷ []) q₂ e b₂ s₁.2 (omega (arith, s₁.3)) t
+    abbrev rest : List Field
+    rest = drop (k + 1) fs
 
-        module _ (n₂ : ℕ) (b₃ : List ℕ) (q₃ : ℕ) (t₂ : Took b₂ q₂ (width f₂) n₂ b₃ q₃) where
-          s₂ : (asked (f₂ ∷ f₃ ∷ []) ≡ asked (f₃ ∷ [])) × (n₂ ≡ stating (bits_of b) p f₂) × (b₃ ≡ b) × (q₃ ≡ p + offset f₂ + width f₂)
-          s₂ = yes_step f₂ (f₃ ∷ []) q₂ n₂ b₂ b₃ q₃ s₁.2 (omega (arith, s₁.3)) t₂
+    split : drop k fs ≡ here ∷ rest
+    split = drop_more fs k d inside
 
-          pub fourth_missing : (e : BitFault) → Err e ≡ taken (bits_of b₃) q₃ (width f₃) → four ≡ Some e
-          fourth_missing e t = s₀.0 ∙ s₁.0 ∙ s₂.0 ∙ no_step f₃ [] q₃ e b₃ s₂.2 (omega (arith, s₂.3)) t
+    turn : (offset here ≡ sum_by width (take k fs)) × InTurn (sum_by width (take k fs) + width here) rest
+    turn = subst (λ (x : List Field). InTurn (sum_by width (take k fs)) x) split so_far.turn
 
-          -- all four are there, and the numbers are the stated ones
-          pub all_there : (n₃ : ℕ) (b₄ : List ℕ) (q₄ : ℕ) → Took b₃ q₃ (width f₃) n₃ b₄ q₄
-              → (Ok (n₀, n₁, n₂, n₃) ≡ four_answer (bits_of b) p f₀ f₁ f₂ f₃) × (b₄ ≡ b) × (q₄ ≡ p + offset f₃ + width f₃)
-          all_there n₃ b₄ q₄ t₃ =
-              let s₃ = yes_step f₃ [] q₃ n₃ b₃ b₄ q₄ s₂.2 (omega (arith, s₂.3)) t₃ in
-              let yes : four ≡ None = s₀.0 ∙ s₁.0 ∙ s₂.0 ∙ s₃.0 in
-              let f = stating (bits_of b) p in (
-                ap₂ (λ (x y : ℕ). Ok (quad x y n₂ n₃)) s₀.1 s₁.1 ∙ ap₂ (λ (x y : ℕ). Ok (quad (f f₀) (f f₁) x y)) s₂.1 s₃.1
-                    ∙ ap (λ (x : Option BitFault). answer x (quad (f f₀) (f f₁) (f f₂) (f f₃))) (sym yes),
-                s₃.2,
-                s₃.3,
-              )
+    place : now ≡ cursor c.bytes (c.position + offset here)
+    place = so_far.reader ∙ ap (λ (x : ℕ). cursor c.bytes (c.position + x)) (sym turn.0)
+
+    left : first_no (field_questions (bits_of c.bytes) c.position (here ∷ rest)) ≡ first_no (field_questions (bits_of c.bytes) c.position fs)
+    left = ap (λ (x : List Field). first_no (field_questions (bits_of c.bytes) c.position x)) (sym split) ∙ so_far.left
+
+    pub taking_stop : (e : BitFault) → Err e ≡ taken now (width here) → first_no (field_questions (bits_of c.bytes) c.position fs) ≡ Some e
+    taking_stop e t =
+        sym left
+        ∙ field_missing c.bytes c.position (c.position + offset here) here rest small refl e
+        (t ∙ ap (λ (x : Cursor). taken x (width here)) place)
+
+    pub taking_more : (n : ℕ) → length numbers ≡ length fs → Ok n ≡ taken now (width here) → Taking c fs (k + 1) (moved now (width here)) (set numbers k n)
+    taking_more n same t =
+        let h =
+        field_there c.bytes c.position (c.position + offset here) here rest small refl n
+        (t ∙ ap (λ (x : Cursor). taken x (width here)) place)
+        in
+        let sum = ap (sum_by width) (take_more fs k d inside) ∙ sum_by_push width (take k fs) here in
+        let f = stating (bits_of c.bytes) c.position in
+        record {
+          reader =
+              ap (λ (x : Cursor). moved x (width here)) so_far.reader
+              ∙ ap (λ (x : ℕ). cursor c.bytes x) (omega (arith, sum));
+          turn = subst (λ (x : ℕ). InTurn x rest) (sym sum) turn.1;
+          left = sym h.0 ∙ left;
+          taken_so_far =
+              take_more_set numbers k n (omega arith) ∙ ap₂ (λ (xs : List ℕ) (x : ℕ). xs ++ x ∷ []) so_far.taken_so_far h.1
+              ∙ sym (ap (map f) (take_more fs k d inside) ∙ map-append f (take k fs) (here ∷ []));
+        }
+
+  pub taking_all : length fs ≤ k → length numbers ≡ length fs → (Ok numbers ≡ fields_answer c fs) × (now ≡ moved c (sum_by width fs))
+  taking_all h same =
+      let all = take_all k fs h in
+      let numbers_are = sym (take_all k numbers (omega arith)) ∙ so_far.taken_so_far ∙ ap (map (stating (bits_of c.bytes) c.position)) all in
+      let none = sym so_far.left ∙ ap (λ (x : List Field). first_no (field_questions (bits_of c.bytes) c.position x)) (drop_all k fs h) in (
+        ap Ok numbers_are ∙ ap (λ (o : Option BitFault). answer o (map (stating (bits_of c.bytes) c.position) fs)) (sym none),
+        so_far.reader ∙ ap (λ (x : List Field). moved c (sum_by width x)) all,
+      )

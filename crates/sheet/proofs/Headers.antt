@@ -1,5 +1,5 @@
 -- The header: what its fields and its frame say about the questions on it.
-use Rattle.std.proofs.Common.{◌≡◌, ℕ, ◌<◌, ◌≤◌, Bool, true, false, cond, leb, List, ◌++◌, Some, None, Ok, Err, Option, Result, sym, refl, ap, ◌∙◌, ap₂, arith}
+use Rattle.std.proofs.Common.{◌≡◌, ℕ, ◌<◌, ◌≤◌, Bool, true, false, cond, leb, List, ◌++◌, get_or, map, Some, None, Ok, Err, Option, sym, refl, ap, ◌∙◌, ap₂}
 use Rattle.std.proofs.lemmas.List.{append_assoc}
 use Rattle.std.proofs.lemmas.Bool.{lt-leb, le-leb}
 use Rattle.board.proofs.First.{first_some, handed_no, handed_on, refusal, acceptance}
@@ -7,54 +7,57 @@ use Rattle.board.specs.Board.{Shape}
 use Rattle.board.specs.Questions.{Question, first_no, handed_up, frame_questions, frame_answer}
 use Rattle.board.specs.declared.fault.FrameFault.{FrameFault}
 use Rattle.bits.specs.Bits.{bits_of}
+use Rattle.bits.specs.Cursor.{Cursor}
 use Rattle.bits.specs.Fields.{header_fields}
-use Rattle.sheet.specs.Four.{four_answer}
+use Rattle.sheet.specs.Taking.{fields_answer}
+use Rattle.sheet.proofs.Asked.{cursor}
 use Rattle.layout.specs.Questions.{field_questions, limit_questions, header_questions}
 use Rattle.layout.specs.Stated.{stating, stated}
 use Rattle.bits.specs.declared.fault.BitFault.{BitFault}
 use Rattle.layout.specs.declared.fault.SheetFault.{SheetFault}
 use Rattle.layout.specs.declared.fault.SheetFault.TheVariants.{Bits, Frame, RouteLimit, EntryLimit}
-use Rattle.bits.specs.declared.field.Field.TheVariants.{Places, Home, Port, Routes}
+use Rattle.bits.specs.declared.field.Field.TheVariants.{Routes}
 
-abbrev shape_from : ℕ × ℕ × ℕ × ℕ → Shape
-shape_from x = record { places = x.0; home = x.1; port = x.2 }
-
-module _ (b : List ℕ) (p entries : ℕ) (here : p ≡ 0) where
-  abbrev bits : List ℕ
-  bits = bits_of b
-
+-- a reader at the beginning
+module _ (c : Cursor) (entries : ℕ) (here : c.position ≡ 0) where
   abbrev fields : List (Question BitFault)
-  fields = field_questions bits 0 header_fields
+  fields = field_questions (bits_of c.bytes) 0 header_fields
 
   abbrev frames : List (Question FrameFault)
-  frames = frame_questions (stated bits).shape
+  frames = frame_questions (stated (bits_of c.bytes)).shape
 
   abbrev limits : List (Question SheetFault)
-  limits = limit_questions entries (stating bits 0 Routes)
+  limits = limit_questions entries (stating (bits_of c.bytes) 0 Routes)
 
   abbrev asked : Option SheetFault
-  asked = first_no (header_questions entries bits)
+  asked = first_no (header_questions entries (bits_of c.bytes))
 
-  -- the four fields as the reader took them, from bit p
-  abbrev taken_at : ℕ → Result (ℕ × ℕ × ℕ × ℕ) BitFault
-  taken_at q = four_answer bits q Places Home Port Routes
+  at_start : fields_answer c header_fields ≡ fields_answer (cursor c.bytes 0) header_fields
+  at_start = ap (λ (p : ℕ). fields_answer (cursor c.bytes p) header_fields) here
 
-  pub fields_refused : (e : BitFault) → Err e ≡ taken_at p → asked ≡ Some (Bits e)
+  pub fields_refused : (e : BitFault) → Err e ≡ fields_answer c header_fields → asked ≡ Some (Bits e)
   unfolding header_questions
   fields_refused e t =
       first_some (handed_up Bits fields ++ handed_up Frame frames) limits (Bits e)
-      (handed_no Bits fields (handed_up Frame frames) e (refusal (first_no fields) _ e (t ∙ ap taken_at here)))
+      (handed_no Bits fields (handed_up Frame frames) e (refusal (first_no fields) _ e (t ∙ at_start)))
 
-  module _ (n₀ n₁ n₂ n₃ : ℕ) (t : Ok (n₀, n₁, n₂, n₃) ≡ taken_at p) where
+  -- the numbers that the four fields state
+  module _ (x : List ℕ) (t : Ok x ≡ fields_answer c header_fields) where
     abbrev given : Shape
-    given = record { places = n₀; home = n₁; port = n₂ }
+    given = record { places = get_or x 0 0; home = get_or x 1 0; port = get_or x 2 0 }
 
-    read : (first_no fields ≡ None) × (given ≡ (stated bits).shape) × (n₃ ≡ stating bits 0 Routes)
+    abbrev routes : ℕ
+    routes = get_or x 3 0
+
+    read : (first_no fields ≡ None) × (x ≡ map (stating (bits_of c.bytes) 0) header_fields)
+    read = acceptance (first_no fields) (map (stating (bits_of c.bytes) 0) header_fields) x (t ∙ at_start)
+
+    shape_is : given ≡ (stated (bits_of c.bytes)).shape
     unfolding stated
-    read =
-        let a = acceptance (first_no fields) (stating bits 0 Places, stating bits 0 Home, stating bits 0 Port, stating bits 0 Routes) (n₀, n₁, n₂, n₃) (t ∙ ap taken_at here) in
-        let e = a.1 in
-        (a.0, ap (λ (x : ℕ × ℕ × ℕ × ℕ). shape_from x) e, ap (λ (x : ℕ × ℕ × ℕ × ℕ). x.3) e)
+    shape_is = ap (λ (l : List ℕ). record { places = get_or l 0 0; home = get_or l 1 0; port = get_or l 2 0 }) read.1
+
+    routes_are : routes ≡ stating (bits_of c.bytes) 0 Routes
+    routes_are = ap (λ (l : List ℕ). get_or l 3 0) read.1
 
     past_fields : asked ≡ first_no (handed_up Frame frames ++ limits)
     unfolding header_questions
@@ -62,30 +65,31 @@ module _ (b : List ℕ) (p entries : ℕ) (here : p ≡ 0) where
         ap first_no (append_assoc (handed_up Bits fields) (handed_up Frame frames) limits)
         ∙ handed_on Bits fields (handed_up Frame frames ++ limits) read.0
 
-    pub frame_refused : (e : FrameFault) → Err e ≡ frame_answer n₀ n₁ n₂ → asked ≡ Some (Frame e)
+    pub frame_refused : (e : FrameFault) → Err e ≡ frame_answer given.places given.home given.port → asked ≡ Some (Frame e)
     frame_refused e f =
-        let no : first_no frames ≡ Some e = ap (λ (x : Shape). first_no (frame_questions x)) (sym read.1) ∙ refusal (first_no (frame_questions given)) given e f in
+        let no : first_no frames ≡ Some e = ap (λ (s : Shape). first_no (frame_questions s)) (sym shape_is) ∙ refusal (first_no (frame_questions given)) given e f in
         past_fields ∙ handed_no Frame frames limits e no
 
-    module _ (x : Shape) (f : Ok x ≡ frame_answer n₀ n₁ n₂) where
+    module _ (s : Shape) (f : Ok s ≡ frame_answer given.places given.home given.port) where
       -- past the frame the two limits are left
-      pub frame_accepted : (asked ≡ first_no limits) × (x ≡ (stated bits).shape) × (n₃ ≡ stating bits 0 Routes)
+      pub frame_accepted : (asked ≡ first_no limits) × (s ≡ (stated (bits_of c.bytes)).shape) × (routes ≡ stating (bits_of c.bytes) 0 Routes)
       frame_accepted =
-          let y = acceptance (first_no (frame_questions given)) given x f in
-          let all : first_no frames ≡ None = ap (λ (z : Shape). first_no (frame_questions z)) (sym read.1) ∙ y.0 in
-          (past_fields ∙ handed_on Frame frames limits all, y.1 ∙ read.1, read.2)
+          let y = acceptance (first_no (frame_questions given)) given s f in
+          let all : first_no frames ≡ None = ap (λ (z : Shape). first_no (frame_questions z)) (sym shape_is) ∙ y.0 in
+          (past_fields ∙ handed_on Frame frames limits all, y.1 ∙ shape_is, routes_are)
 
-      by_limits : (few room : Bool) → leb (stating bits 0 Routes) 512 ≡ few → leb (stating bits 0 Routes) entries ≡ room
+      by_limits : (few room : Bool) → leb routes 512 ≡ few → leb routes entries ≡ room
           → asked ≡ cond few (cond room None (Some EntryLimit)) (Some RouteLimit)
-      by_limits few room p q = frame_accepted.0 ∙ ap₂ (λ (y z : Bool). cond y (cond z None (Some EntryLimit)) (Some RouteLimit)) p q
+      by_limits few room p q =
+          frame_accepted.0
+          ∙ ap (λ (n : ℕ). first_no (limit_questions entries n)) (sym routes_are)
+          ∙ ap₂ (λ (y z : Bool). cond y (cond z None (Some EntryLimit)) (Some RouteLimit)) p q
 
-      pub over_limit : 512 < n₃ → asked ≡ Some RouteLimit
-      over_limit h = by_limits false (leb (stating bits 0 Routes) entries) (lt-leb (stating bits 0 Routes) 512 (omega (arith, read.2))) refl
+      pub over_limit : 512 < routes → asked ≡ Some RouteLimit
+      over_limit h = by_limits false (leb routes entries) (lt-leb routes 512 h) refl
 
-      pub over_entries : n₃ ≤ 512 → entries < n₃ → asked ≡ Some EntryLimit
-      over_entries h k =
-          by_limits true false (le-leb (stating bits 0 Routes) 512 (omega (arith, read.2))) (lt-leb (stating bits 0 Routes) entries (omega (arith, read.2)))
+      pub over_entries : routes ≤ 512 → entries < routes → asked ≡ Some EntryLimit
+      over_entries h k = by_limits true false (le-leb routes 512 h) (lt-leb routes entries k)
 
-      pub within_limits : n₃ ≤ 512 → n₃ ≤ entries → asked ≡ None
-      within_limits h k =
-          by_limits true true (le-leb (stating bits 0 Routes) 512 (omega (arith, read.2))) (le-leb (stating bits 0 Routes) entries (omega (arith, read.2)))
+      pub within_limits : routes ≤ 512 → routes ≤ entries → asked ≡ None
+      within_limits h k = by_limits true true (le-leb routes 512 h) (le-leb routes entries k)

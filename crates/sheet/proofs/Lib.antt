@@ -8,3 +8,4 @@ pub mod Placed
 pub mod Records
 pub mod Saving
 pub mod Sheets
+pub mod Shown

@@ -4,12 +4,13 @@ use Rattle.std.proofs.lemmas.List.{append-nil, append_assoc, length-append, leng
 use Rattle.std.specs.List.{flat_map}
 use Rattle.board.specs.Board.{Board}
 use Rattle.board.specs.declared.route.Route.{Route}
-use Rattle.bits.specs.Bits.{digits, bits_of, zeros, fill, written}
+use Rattle.bits.specs.Bits.{bits_of, zeros, fill, written}
 use Rattle.layout.specs.Format.{record_bits, sheet_bits, IsSheet, sheet_length}
-use Rattle.sheet.specs.Writing.{bytes_to, Placed}
-use Rattle.bits.proofs.Bits.{length_digits, length_bits_of}
+use Rattle.sheet.specs.Writing.{bytes_to, Placed, Wrote}
+use Rattle.sheet.specs.declared.writer.BitWriter.{BitWriter}
+use Rattle.bits.proofs.Bits.{length_bits_of}
 use Rattle.bits.proofs.Bytes.{bits_of_take}
-use Rattle.layout.proofs.Format.{length_records, length_sheet_bits}
+use Rattle.layout.proofs.Format.{length_sheet_bits}
 
 -- to write some bits and then more is to write them all
 pub written_written : (bits : List ℕ) (p : ℕ) (xs ys : List ℕ) → p ≤ length bits → written (written bits p xs) (p + length xs) ys ≡ written bits p (xs ++ ys)
@@ -64,18 +65,6 @@ placed_more a b c p q xs ys e f s =
       as_long = s.as_long ∙ f.as_long;
     }
 
--- four fields, one behind the other
-pub placed_fields : {a b c d e : List ℕ} {p q r s : ℕ} (w x y z m n k l : ℕ) → q ≡ p + w → r ≡ q + x → s ≡ r + y → Placed a p (digits w m) b → Placed b q (digits x n) c → Placed c r (digits y k) d → Placed d s (digits z l) e → Placed a p (digits w m ++ digits x n ++ digits y k ++ digits z l) e
-placed_fields {a} {b} {c} {d} {e} {p} {q} {r} {s} w x y z m n k l hq hr hs first second third fourth =
-    let lw = length_digits w m in
-    let lx = length_digits x n in
-    let ly = length_digits y k in
-    let two = length-append (digits w m) (digits x n) in
-    let three = length-append (digits w m ++ digits x n) (digits y k) in
-    placed_more a d e p s (digits w m ++ digits x n ++ digits y k) (digits z l) (omega arith)
-    (placed_more a c d p r (digits w m ++ digits x n) (digits y k) (omega arith) (placed_more a b c p q (digits w m) (digits x n) (omega arith) first second) third)
-    fourth
-
 -- no bits, at the start of a byte
 pub placed_none : (bs : List ℕ) (p : ℕ) → p % 8 ≡ 0 → p ≤ 8 * length bs → Placed bs p [] bs
 unfolding written
@@ -117,11 +106,23 @@ ends_as_before b {bs} {out} {n} end p e same =
     let l : bytes_to (0 + length (sheet_bits b)) ≡ n = omega (arith, length_sheet_bits b) in
     ap (drop n) same ∙ ap (λ (k : ℕ). drop k out) (sym l) ∙ p.later ∙ ap (λ (k : ℕ). drop k bs) l
 
+-- what a writer wrote, and then more
+pub wrote_more : (v w x : BitWriter) (xs ys : List ℕ) → Wrote v xs w → Wrote w ys x → Wrote v (xs ++ ys) x
+wrote_more v w x xs ys f s =
+    let l = length-append xs ys in
+    record {
+      placed = placed_more v.buffer.now w.buffer.now x.buffer.now v.position w.position xs ys f.position f.placed s.placed;
+      position = omega (arith, f.position, s.position);
+      same = s.same ∙ f.same;
+    }
+
+-- no bits, from the start of a byte
+pub wrote_none : (w : BitWriter) → w.position % 8 ≡ 0 → w.position ≤ 8 * length w.buffer.now → Wrote w [] w
+wrote_none w whole h = record { placed = placed_none w.buffer.now w.position whole h; position = omega arith; same = refl }
+
 -- one record more
-pub placed_record : (bs mid out : List ℕ) (rs : List Route) (k p : ℕ) (d : Route) → k < length rs → p ≡ 32 + 39 * k → Placed bs 32 (flat_map record_bits (take k rs)) mid → Placed mid p (record_bits (get_or rs k d)) out → Placed bs 32 (flat_map record_bits (take (k + 1) rs)) out
-placed_record bs mid out rs k p d h e done next =
-    let l = length_records (take k rs) in
-    let t = length-take-le k rs (omega arith) in
-    let more = placed_more bs mid out 32 p (flat_map record_bits (take k rs)) (record_bits (get_or rs k d)) (omega arith) done next in
+pub wrote_record : (v w x : BitWriter) (rs : List Route) (k : ℕ) (d : Route) → k < length rs → Wrote v (flat_map record_bits (take k rs)) w → Wrote w (record_bits (get_or rs k d)) x → Wrote v (flat_map record_bits (take (k + 1) rs)) x
+wrote_record v w x rs k d h done next =
+    let more = wrote_more v w x (flat_map record_bits (take k rs)) (record_bits (get_or rs k d)) done next in
     let j = flat_map_more record_bits [] (take k rs) (get_or rs k d) in
     rw (take_more rs k d h, ← j) more

@@ -2,13 +2,13 @@
 --   write_number       the number of each refusal
 --   board_with         the board that a frame and routes are
 --   routes_questions   what each route is asked, in the order of their numbers
+--   board_questions    what the board is asked
 --   write_questions    all questions, in their order
 --   Writable           a valid board, and room for its sheet
 --   write_answer       how long the sheet is, or the fault of the first question that gets a no
 use Rattle.std.specs.Prelude.{ℕ, suc, ◌≤◌, List, [], ◌∷◌, ◌++◌, length, Result, nat_le}
-use Rattle.board.specs.Board.{Board, Shape, Valid, shape_of}
+use Rattle.board.specs.Board.{Board, Shape, Valid}
 use Rattle.board.specs.Questions.{Question, first_no, handed_up, answer, route_number}
-use Rattle.board.specs.declared.frame.Frame.{Frame}
 use Rattle.board.specs.declared.route.Route.{Route}
 use Rattle.layout.specs.Format.{sheet_length}
 use Rattle.layout.specs.Questions.{order_questions}
@@ -22,9 +22,9 @@ write_number RouteLimit = 52
 write_number (Order o) = route_number o.fault
 write_number Buffer = 61
 
--- The board with the shape of a frame and these routes.
-abbrev pub board_with : Frame → List Route → Board
-board_with f rs = record { shape = shape_of f; routes = rs }
+-- The board with a frame of this shape and these routes.
+abbrev pub board_with : Shape → List Route → Board
+board_with s rs = record { shape = s; routes = rs }
 
 -- Is each of these routes, from route k on, a route of the shape?
 unfoldable pub routes_questions : Shape → ℕ → List Route → List (Question OrderFault)
@@ -32,12 +32,13 @@ routes_questions s k [] = []
 routes_questions s k (r ∷ rs) =
     order_questions s k r ++ routes_questions s (suc k) rs
 
--- Are there at most 512 routes? Is each a route of the frame? Has the buffer, of n bytes, room for the sheet?
+-- Are there at most 512 routes? Is each a route of the frame?
+unfoldable pub board_questions : Board → List (Question WriteFault)
+board_questions b = (nat_le (length b.routes) 512, RouteLimit) ∷ handed_up Order (routes_questions b.shape 0 b.routes)
+
+-- What the board is asked, and then: has the buffer, of n bytes, room for the sheet?
 unfoldable pub write_questions : Board → ℕ → List (Question WriteFault)
-write_questions b n =
-    (nat_le (length b.routes) 512, RouteLimit)
-    ∷ handed_up Order (routes_questions b.shape 0 b.routes)
-    ++ (nat_le (sheet_length (length b.routes)) n, Buffer) ∷ []
+write_questions b n = board_questions b ++ (nat_le (sheet_length (length b.routes)) n, Buffer) ∷ []
 
 -- The board is valid, and n bytes have room for its sheet.
 pub record Writable (b : Board) (n : ℕ) : Type 0 where

@@ -5,9 +5,11 @@
 --   put_bits     the bits of the buffer after that
 --   SameFrom     the bytes from one on are what they were
 --   Placed       bytes before and after bits were written over them
+--   Wrote        a writer before and after it wrote bits
 use Rattle.std.specs.Prelude.{◌≡◌, ℕ, ◌+◌, ◌-◌, ◌*◌, ◌/◌, ◌%◌, ◌^◌, ◌≤◌, Bool, cond, List, length, drop, Ok, Err, Result}
 use Rattle.bits.specs.Bits.{digits, bits_of, within, written}
 use Rattle.bits.specs.declared.fault.BitFault.{BitFault}
+use Rattle.sheet.specs.declared.writer.BitWriter.{BitWriter}
 
 -- How many bytes the first n bits touch: the last byte may be touched in part.
 abbrev pub bytes_to : ℕ → ℕ
@@ -36,3 +38,10 @@ pub record Placed (before : List ℕ) (p : ℕ) (new after : List ℕ) : Type 0 
   pub bits : bits_of after ≡ written (bits_of before) p new
   pub later : SameFrom (bytes_to (p + length new)) before after
   pub as_long : length after ≡ length before
+
+-- A writer wrote bits from where it stood: they are placed there, it stands behind them, and its buffer is the one that
+-- was lent.
+pub record Wrote (before : BitWriter) (new : List ℕ) (after : BitWriter) : Type 0 where
+  pub placed : Placed before.buffer.now before.position new after.buffer.now
+  pub position : after.position ≡ before.position + length new
+  pub same : after.buffer.ghost_name ≡ before.buffer.ghost_name

@@ -1,12 +1,11 @@
 // Reading a sheet: every question in its order, and then a view that copies nothing.
-ghost use Rattle.std.specs.Prelude.{◌≡◌, ◌+◌, ◌*◌, ◌^◌, ◌<◌, ◌≤◌, length, pos, IfOk, OnOk};
-ghost use Rattle.board.specs.Board.{shape_of};
+ghost use Rattle.std.specs.Prelude.{◌≡◌, ◌+◌, ◌*◌, ◌^◌, ◌<◌, ◌≤◌, length, map, sum_by, IfOk, OnOk, slice_index};
 ghost use Rattle.board.specs.Questions.{answer, first_no, map_ok};
 ghost use Rattle.bits.specs.Bits.{bits_of};
-ghost use Rattle.bits.specs.Fields.{width, offset, record_start};
-ghost use Rattle.bits.specs.Signed.{widened};
-ghost use Rattle.sheet.specs.Four.{InTurn, four_answer, order_answer};
+ghost use Rattle.bits.specs.Fields.{width, record_start};
+ghost use Rattle.bits.specs.Reading.{moved};
 ghost use Rattle.sheet.specs.Header.{stated_of, stated_header};
+ghost use Rattle.sheet.specs.Taking.{InTurn, fields_answer, route_of, order_answer};
 ghost use Rattle.layout.specs.Laws.{Reads};
 ghost use Rattle.layout.specs.Questions.{header_questions, record_questions, records_questions, end_questions, sheet_fault};
 ghost use Rattle.layout.specs.Stated.{stated};
@@ -22,6 +21,11 @@ use bits::signed::widen;
 use board::frame::Frame;
 use board::route::Route;
 use layout::fault::{OrderFault, SheetFault};
+
+// The fields of the header, and those of a record, in their order.
+const HEADER: [Field; 4] = [Field::Places, Field::Home, Field::Port, Field::Routes];
+
+const RECORD: [Field; 4] = [Field::Start, Field::End, Field::Floor, Field::Ceiling];
 
 impl<'a> Sheet<'a> {
     // A view of the sheet, if it is the sheet of a valid board with at most so many routes; else the first question
@@ -40,45 +44,33 @@ impl<'a> Sheet<'a> {
 }
 
 // The numbers that four fields state, which stand in turn from where the reader is; or the first that is missing.
-fn take_four(
-    reader: &mut BitReader,
-    a: Field,
-    b: Field,
-    c: Field,
-    d: Field,
-) -> Result<(u16, u16, u16, u16), BitFault>
+fn take_four(reader: &mut BitReader, fields: [Field; 4]) -> Result<[u16; 4], BitFault>
     requires start { reader.old.position < 2 ^ 32 }
-    requires turn { InTurn a b c d }
-    ensures answer { result ≡ four_answer (bits_of reader.old.bytes.now) reader.old.position a b c d }
-    ensures position { OnOk result (reader.new.position ≡ reader.old.position + offset d + width d) }
-    ensures bytes { reader.new.bytes.now ≡ reader.old.bytes.now }
+    requires four { length fields ≡ 4 }
+    requires turn { InTurn 0 fields }
+    ensures answer { result ≡ fields_answer reader.old fields }
+    ensures reader { OnOk result (reader.new ≡ moved reader.old (sum_by width fields)) }
 {
-    let first = reader.take(a)?;
-    let second = reader.take(b)?;
-    let third = reader.take(c)?;
-    let fourth = reader.take(d)?;
-    Ok((first, second, third, fourth))
+    let mut numbers = [0; 4];
+    for (k, field) in fields.iter().enumerate() {
+        numbers[k] = reader.take(*field)?;
+    }
+    Ok(numbers)
 }
 
 // The frame and the number of routes that the header states.
 fn read_header(reader: &mut BitReader, entries: usize) -> Result<Header, SheetFault>
     requires { reader.old.position ≡ 0 }
-    ensures answer { map_ok stated_of result ≡ answer (first_no (header_questions entries (bits_of reader.old.bytes.now))) (stated_header (bits_of reader.old.bytes.now)) }
-    ensures position { OnOk result (reader.new.position ≡ 32) }
-    ensures bytes { reader.new.bytes.now ≡ reader.old.bytes.now }
+    ensures answer { map_ok stated_of result ≡ answer (first_no (header_questions entries (bits_of reader.old.bytes))) (stated_header (bits_of reader.old.bytes)) }
+    ensures reader { OnOk result (reader.new ≡ moved reader.old 32) }
 {
-    let (places, home, port, routes) = take_four(
-        reader,
-        Field::Places,
-        Field::Home,
-        Field::Port,
-        Field::Routes,
-    )?;
-    let frame = Frame::new(places as usize, home as usize, port as usize)?;
-    if routes as usize > ROUTE_LIMIT {
+    let [places, home, port, routes] = take_four(reader, HEADER)?;
+    let frame = Frame::new(usize::from(places), usize::from(home), usize::from(port))?;
+    let count = usize::from(routes);
+    if count > ROUTE_LIMIT {
         return Err(SheetFault::RouteLimit);
     }
-    if routes as usize > entries {
+    if count > entries {
         return Err(SheetFault::EntryLimit);
     }
     Ok(Header { frame, routes })
@@ -87,7 +79,7 @@ fn read_header(reader: &mut BitReader, entries: usize) -> Result<Header, SheetFa
 // Every record, in the order of the routes.
 fn check_records(reader: &mut BitReader, header: &Header) -> Result<(), SheetFault>
     requires { reader.old.position ≡ 32 }
-    ensures answer { result ≡ answer (first_no (records_questions (bits_of reader.old.bytes.now) (shape_of header.now.frame) 0 header.now.routes)) tt }
+    ensures { result ≡ answer (first_no (records_questions (bits_of reader.old.bytes) header.now.frame 0 header.now.routes)) tt }
 {
     for route in 0..header.routes {
         check_record(reader, &header.frame, route)?;
@@ -98,43 +90,28 @@ fn check_records(reader: &mut BitReader, header: &Header) -> Result<(), SheetFau
 // The record of one route.
 fn check_record(reader: &mut BitReader, frame: &Frame, route: u16) -> Result<(), SheetFault>
     requires { reader.old.position ≡ record_start route }
-    ensures answer { result ≡ answer (first_no (record_questions (bits_of reader.old.bytes.now) (shape_of frame.now) route)) tt }
-    ensures position { OnOk result (reader.new.position ≡ record_start (route + 1)) }
-    ensures bytes { reader.new.bytes.now ≡ reader.old.bytes.now }
+    ensures answer { result ≡ answer (first_no (record_questions (bits_of reader.old.bytes) frame.now route)) tt }
+    ensures reader { OnOk result (reader.new ≡ moved reader.old 39) }
 {
-    let (start, end, floor, ceiling) = take_four(
-        reader,
-        Field::Start,
-        Field::End,
-        Field::Floor,
-        Field::Ceiling,
-    )?;
-    order_route(frame, route, start, end, floor, ceiling)?;
+    let numbers = take_four(reader, RECORD)?;
+    order_route(frame, route, numbers)?;
     Ok(())
 }
 
-// The route that the fields of the record with this number state.
-fn order_route(
-    frame: &Frame,
-    route: u16,
-    start: u16,
-    end: u16,
-    floor: u16,
-    ceiling: u16,
-) -> Result<Route, OrderFault>
-    requires { floor < 2 ^ 13 }
-    ensures { result ≡ order_answer (shape_of frame.now) route (record { start = start; end = end; floor = widened floor; ceiling = pos ceiling }) }
+// The route with this number, from the numbers of its record.
+fn order_route(frame: &Frame, route: u16, numbers: [u16; 4]) -> Result<Route, OrderFault>
+    requires { slice_index numbers 2 < 2 ^ 13 }
+    ensures { result ≡ order_answer frame.now route (route_of numbers) }
 {
-    match Route::new(
+    let [start, end, floor, ceiling] = numbers;
+    let asked = Route::new(
         frame,
-        start as usize,
-        end as usize,
-        widen(floor) as i32,
-        ceiling as i32,
-    ) {
-        Ok(accepted) => Ok(accepted),
-        Err(fault) => Err(OrderFault { route, fault }),
-    }
+        usize::from(start),
+        usize::from(end),
+        i32::from(widen(floor)),
+        i32::from(ceiling),
+    );
+    asked.map_err(|fault| OrderFault { route, fault })
 }
 
 // What follows the last record.

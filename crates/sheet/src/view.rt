@@ -1,34 +1,37 @@
 // An accepted sheet, as a view over the lent bytes.
-ghost use Rattle.std.specs.Prelude.{◌≡◌, ◌^◌, ◌<◌, length};
-ghost use Rattle.board.specs.Board.{shape_of};
-ghost use Rattle.board.specs.Questions.{map_ok, frame_answer};
+ghost use Rattle.std.specs.Prelude.{◌≡◌, ◌^◌, ◌<◌, length, slice_get};
+ghost use Rattle.board.specs.Board.{Valid};
 ghost use Rattle.bits.specs.Bits.{bits_of};
-ghost use Rattle.layout.specs.Stated.{route_at};
-ghost use Rattle.layout.specs.Stated.{nth};
-ghost use Rattle.sheet.specs.View.{board_of};
+ghost use Rattle.layout.specs.Format.{IsSheet};
+ghost use Rattle.layout.specs.Stated.{stated, route_at};
 
+use crate::routes::Routes;
 use bits::field::{Field, record_start};
 use bits::reader::field_at;
 use bits::signed::widen;
-use board::fault::FrameFault;
 use board::frame::Frame;
 use board::route::Route;
 
-// The board that the bytes state. `Sheet::read` makes one only of bytes that are the sheet of a valid board.
+// The sheet of a valid board: the lent bytes alone, off which the board is read when it is asked for. `Sheet::read`
+// makes it.
 #[derive(Clone, Copy)]
 pub struct Sheet<'a> {
     pub(crate) bytes: &'a [u8],
+    ghost valid: { ∥ Valid (stated (bits_of bytes.now)) ∥₁ },
+    ghost sheet: { IsSheet (stated (bits_of bytes.now)) bytes.now },
 }
 
-impl Sheet<'_> {
-    // The board's frame. It is there in every sheet that `read` accepts.
-    pub fn frame(&self) -> Result<Frame, FrameFault>
-        ensures { map_ok shape_of result ≡ frame_answer (board_of self.now).shape.places (board_of self.now).shape.home (board_of self.now).shape.port }
+impl<'a> Sheet<'a> {
+    ghost use Rattle.sheet.specs.View.{board_of, routes_left};
+
+    // The board's frame.
+    pub fn frame(&self) -> Frame
+        ensures { result ≡ (board_of self.now).shape }
     {
         let places = field_at(self.bytes, Field::Places.offset(), Field::Places);
         let home = field_at(self.bytes, Field::Home.offset(), Field::Home);
         let port = field_at(self.bytes, Field::Port.offset(), Field::Port);
-        Frame::new(places as usize, home as usize, port as usize)
+        Frame::new(usize::from(places), usize::from(home), usize::from(port)).unwrap()
     }
 
     // How many routes the board has.
@@ -36,17 +39,27 @@ impl Sheet<'_> {
         ensures value { result ≡ length (board_of self.now).routes }
         ensures bound { result < 2 ^ 10 }
     {
-        field_at(self.bytes, Field::Routes.offset(), Field::Routes) as usize
+        usize::from(field_at(self.bytes, Field::Routes.offset(), Field::Routes))
     }
 
     // The route of this number; none from the number of routes on.
     pub fn route(&self, number: usize) -> Option<Route>
-        ensures { result ≡ nth (board_of self.now).routes number }
+        ensures { result ≡ slice_get (board_of self.now).routes number }
     {
         if number < self.len() {
             Some(route_at(self.bytes, record_start(number as u16)))
         } else {
             None
+        }
+    }
+
+    // The routes, in the order of their numbers.
+    pub fn routes(&self) -> Routes<'a>
+        ensures { routes_left result ≡ (board_of self.now).routes }
+    {
+        Routes {
+            sheet: *self,
+            next: 0,
         }
     }
 }

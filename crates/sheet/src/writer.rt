@@ -2,7 +2,7 @@
 ghost use Rattle.std.specs.Prelude.{◌≡◌, ◌+◌, ◌*◌, ◌/◌, ◌^◌, ◌<◌, ◌≤◌, true, false, length, is_ok, if◌then◌else◌};
 ghost use Rattle.bits.specs.Bits.{bits_of, digits, within};
 ghost use Rattle.bits.specs.Fields.{width};
-ghost use Rattle.sheet.specs.Writing.{bytes_to, window_of, put_answer, put_bits, SameFrom, Placed};
+ghost use Rattle.sheet.specs.Writing.{bytes_to, window_of, put_answer, put_bits, SameFrom, Placed, Wrote};
 
 use bits::fault::BitFault;
 use bits::field::{Field, end_of};
@@ -78,9 +78,7 @@ impl<'a> BitWriter<'a> {
     // Writes a field whose bits all fit, as `put` does.
     pub(crate) fn place(&mut self, field: Field, value: u16)
         requires { within (8 * length self.old.buffer.now) self.old.position (width field) ≡ true }
-        ensures position { self.new.position ≡ self.old.position + width field }
-        ensures placed { Placed self.old.buffer.now self.old.position (digits (width field) value) self.new.buffer.now }
-        ensures same { self.new.buffer.ghost_name ≡ self.old.buffer.ghost_name }
+        ensures { Wrote self.old (digits (width field) value) self.new }
     {
         let start = self.position;
         put_at(self.buffer, start, field, value);

@@ -1,7 +1,6 @@
 -- The header's fields are taken, its frame is made, and the limits are asked: the first no decides.
 use Rattle.std.proofs.Common.{Ok, sym, ap, ◌∙◌, ap₂, arith}
 use Rattle.std.proofs.lemmas.Result.{err_from_is_err_and}
-use Rattle.board.specs.Board.{shape_of}
 use Rattle.board.specs.Questions.{answer}
 use Rattle.bits.specs.Bits.{bits_of}
 use Rattle.sheet.proofs.Exits.{refused_through}
@@ -9,79 +8,33 @@ use Rattle.sheet.proofs.Headers.{fields_refused, frame_refused, frame_accepted, 
 use Rattle.sheet.specs.Header.{stated_of, stated_header}
 use Rattle.sheet.proofs.reading.read_header.Goals as goal
 
-pub returns-in_err-places : goal.returns-in_err-places
-returns-in_err-places c =
+pub returns-in_err-places-clause-answer : goal.returns-in_err-places-clause-answer
+returns-in_err-places-clause-answer c =
     let p = err_from_is_err_and c.from_residual.result c.from_residual.ensures.1 in
-    record {
-      answer =
-          refused_through stated_of _ _ _ _ _ p.1 p.2
-          (fields_refused c.args.reader.now.bytes.now c.args.reader.now.position c.args.entries c.requires
-          c.in_err-places.field-0.0 c.in_err-places.ensures.answer);
-      position = rw p.1 tt;
-      bytes = c.in_err-places.ensures.bytes;
-    }
+    refused_through stated_of _ _ _ _ _ p.1 p.2 (fields_refused _ c.args.entries c.requires _ c.in_err-places.ensures.answer)
 
-pub returns-in_err-frame : goal.returns-in_err-frame
-returns-in_err-frame c =
+pub returns-in_err-frame-clause-answer : goal.returns-in_err-frame-clause-answer
+returns-in_err-frame-clause-answer c =
     let p = err_from_is_err_and c.from_residual-in_err-frame.result c.from_residual-in_err-frame.ensures.1 in
-    let e =
-    frame_refused c.args.reader.now.bytes.now c.args.reader.now.position c.args.entries c.requires
-    c.in_ok-places.places c.in_ok-places.home c.in_ok-places.port
-    c.in_ok-places.routes c.in_ok-places.ensures.answer c.in_err-frame.field-0.0
-    c.in_err-frame.ensures.answer
-    in
-    record {
-      answer = refused_through stated_of _ _ _ _ _ p.1 p.2 e;
-      position = rw p.1 tt;
-      bytes = c.in_ok-places.ensures.bytes;
-    }
+    let f = simp (c.from.ensures, c.from-2.ensures, c.from-3.ensures) at c.in_err-frame.ensures.answer in
+    refused_through stated_of _ _ _ _ _ p.1 p.2 (frame_refused _ c.args.entries c.requires _ c.in_ok-places.ensures.answer _ f)
 
-pub returns-then-routes-gt-ROUTE_LIMIT : goal.returns-then-routes-gt-ROUTE_LIMIT
-returns-then-routes-gt-ROUTE_LIMIT c =
-    let e =
-    over_limit c.args.reader.now.bytes.now c.args.reader.now.position c.args.entries c.requires
-    c.in_ok-places.places c.in_ok-places.home c.in_ok-places.port
-    c.in_ok-places.routes c.in_ok-places.ensures.answer
-    (shape_of c.in_ok-frame.frame) c.in_ok-frame.ensures.answer (omega arith)
-    in
-    record {
-      answer = ap (λ z. answer z (stated_header (bits_of c.args.reader.now.bytes.now))) (sym e);
-      position = tt;
-      bytes = c.in_ok-places.ensures.bytes;
-    }
+pub returns-then-count-gt-ROUTE_LIMIT-clause-answer : goal.returns-then-count-gt-ROUTE_LIMIT-clause-answer
+returns-then-count-gt-ROUTE_LIMIT-clause-answer c =
+    let f = simp (c.from.ensures, c.from-2.ensures, c.from-3.ensures) at c.in_ok-frame.ensures.answer in
+    let e = over_limit _ c.args.entries c.requires _ c.in_ok-places.ensures.answer _ f (omega arith) in
+    ap (λ z. answer z (stated_header (bits_of c.args.reader.now.bytes))) (sym e)
 
-pub returns-then-routes-entries : goal.returns-then-routes-entries
-returns-then-routes-entries c =
-    let e =
-    over_entries c.args.reader.now.bytes.now c.args.reader.now.position c.args.entries c.requires
-    c.in_ok-places.places c.in_ok-places.home c.in_ok-places.port
-    c.in_ok-places.routes c.in_ok-places.ensures.answer
-    (shape_of c.in_ok-frame.frame) c.in_ok-frame.ensures.answer (omega arith) (omega arith)
-    in
-    record {
-      answer = ap (λ z. answer z (stated_header (bits_of c.args.reader.now.bytes.now))) (sym e);
-      position = tt;
-      bytes = c.in_ok-places.ensures.bytes;
-    }
+pub returns-then-count-entries-clause-answer : goal.returns-then-count-entries-clause-answer
+returns-then-count-entries-clause-answer c =
+    let f = simp (c.from.ensures, c.from-2.ensures, c.from-3.ensures) at c.in_ok-frame.ensures.answer in
+    let e = over_entries _ c.args.entries c.requires _ c.in_ok-places.ensures.answer _ f (omega arith) (omega arith) in
+    ap (λ z. answer z (stated_header (bits_of c.args.reader.now.bytes))) (sym e)
 
-pub returns : goal.returns
-returns c =
-    let a =
-    frame_accepted c.args.reader.now.bytes.now c.args.reader.now.position c.args.entries c.requires
-    c.in_ok-places.places c.in_ok-places.home c.in_ok-places.port
-    c.in_ok-places.routes c.in_ok-places.ensures.answer
-    (shape_of c.in_ok-frame.frame) c.in_ok-frame.ensures.answer
-    in
-    let e =
-    within_limits c.args.reader.now.bytes.now c.args.reader.now.position c.args.entries c.requires
-    c.in_ok-places.places c.in_ok-places.home c.in_ok-places.port
-    c.in_ok-places.routes c.in_ok-places.ensures.answer
-    (shape_of c.in_ok-frame.frame) c.in_ok-frame.ensures.answer (omega arith) (omega arith)
-    in
-    record {
-      answer =
-          ap₂ (λ s n. Ok (record { shape = s; routes = n })) a.1 a.2
-          ∙ ap (λ z. answer z (stated_header (bits_of c.args.reader.now.bytes.now))) (sym e);
-      position = omega (arith, c.requires, c.in_ok-places.ensures.position);
-      bytes = c.in_ok-places.ensures.bytes;
-    }
+pub returns-clause-answer : goal.returns-clause-answer
+returns-clause-answer c =
+    let f = simp (c.from.ensures, c.from-2.ensures, c.from-3.ensures) at c.in_ok-frame.ensures.answer in
+    let e = within_limits _ c.args.entries c.requires _ c.in_ok-places.ensures.answer _ f (omega arith) (omega arith) in
+    let a = frame_accepted _ c.args.entries c.requires _ c.in_ok-places.ensures.answer _ f in
+    ap₂ (λ s n. Ok (record { shape = s; routes = n })) a.1 a.2
+    ∙ ap (λ z. answer z (stated_header (bits_of c.args.reader.now.bytes))) (sym e)

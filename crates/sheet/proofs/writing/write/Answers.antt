@@ -1,69 +1,64 @@
-use Rattle.std.proofs.Common.{ℕ, length, Ok, sym, refl, ap, ◌∙◌, arith, rules}
-use Rattle.std.proofs.lemmas.Result.{err_from_is_err_and}
+-- The board is asked, then the buffer, and then the sheet is written.
+use Rattle.std.proofs.Common.{◌≡◌, ℕ, ◌≤◌, length, None, Ok, sym, subst, refl, ap, ◌∙◌, arith, rules}
 use Rattle.std.proofs.lemmas.Bool.{true≢false}
-use Rattle.board.specs.Board.{Board}
-use Rattle.board.specs.Questions.{first_no}
-use Rattle.layout.specs.Format.{sheet_bits}
-use Rattle.sheet.specs.Saving.{board_with, routes_questions}
-use Rattle.sheet.specs.Writing.{Placed}
+use Rattle.std.proofs.lemmas.Result.{err_from_is_err_and}
 use Rattle.board.proofs.First.{refusal, acceptance}
-use Rattle.sheet.proofs.Saving.{routes_valid, frame_shape, write_many, write_order, write_short, write_fits, write_decides}
+use Rattle.board.specs.Board.{Board, ValidShape}
+use Rattle.board.specs.Questions.{first_no}
+use Rattle.layout.specs.Format.{sheet_bits, sheet_length}
+use Rattle.sheet.specs.Checked.{board_of}
+use Rattle.sheet.specs.Saving.{board_with, board_questions}
+use Rattle.sheet.specs.Writing.{Placed}
 use Rattle.sheet.proofs.Placed.{ends_with_sheet, ends_as_before}
+use Rattle.sheet.proofs.Saving.{write_refused, write_short, write_fits, refused_decides, accepted_decides}
 use Rattle.sheet.proofs.writing.write.Goals as goal
+use Rattle.sheet.proofs.writing.write.Goals.{In_ok-board}
 
-pub returns-then-routes-gt-ROUTE_LIMIT : goal.returns-then-routes-gt-ROUTE_LIMIT
-returns-then-routes-gt-ROUTE_LIMIT c =
+pub returns-in_err-board : goal.returns-in_err-board
+returns-in_err-board c =
     let b : Board = board_with c.args.frame.now c.args.routes.now in
     let n : ℕ = length c.args.buffer.now in
-    let e = write_many b n c.if-routes-gt-ROUTE_LIMIT.true in
-    let d = write_decides b n (frame_shape c.args.frame.now) in
-    record { answer = sym e; sheet = tt; later = tt; refused = λ _. refl; valid = simp e at d }
-
-pub returns-in_err-check_routes : goal.returns-in_err-check_routes
-returns-in_err-check_routes c =
-    let b : Board = board_with c.args.frame.now c.args.routes.now in
-    let n : ℕ = length c.args.buffer.now in
-    let first = refusal (first_no (routes_questions b.shape 0 b.routes)) tt _ c.in_err-check_routes.ensures in
-    let e = write_order b n _ c.if-routes-gt-ROUTE_LIMIT.false first in
-    let d = write_decides b n (frame_shape c.args.frame.now) in
+    let e = write_refused b n _ (refusal (first_no (board_questions b)) b _ c.in_err-board.ensures) in
     let p = err_from_is_err_and c.from_residual.result c.from_residual.ensures.1 in
-    rw (p.1, p.2) (record { answer = sym e; sheet = tt; later = tt; refused = λ _. refl; valid = simp e at d })
+    rw (p.1, p.2) (record { answer = sym e; sheet = tt; later = tt; refused = λ _. refl; valid = refused_decides b n _ e })
+
+-- the board that was accepted is the one that was asked about
+accepted : (c : In_ok-board) → (let b : Board = board_with c.args.frame.now c.args.routes.now in (first_no (board_questions b) ≡ None) × (board_of c.in_ok-board.board ≡ b))
+accepted c = let b : Board = board_with c.args.frame.now c.args.routes.now in acceptance (first_no (board_questions b)) b _ c.in_ok-board.ensures
 
 pub returns-then-buffer-length : goal.returns-then-buffer-length
 returns-then-buffer-length c =
     let b : Board = board_with c.args.frame.now c.args.routes.now in
     let n : ℕ = length c.args.buffer.now in
-    let each = (acceptance (first_no (routes_questions b.shape 0 b.routes)) tt _ c.in_ok-check_routes.ensures).0 in
-    let e = write_short b n c.if-routes-gt-ROUTE_LIMIT.false each (omega arith) in
-    let d = write_decides b n (frame_shape c.args.frame.now) in
-    record { answer = sym e; sheet = tt; later = tt; refused = λ _. refl; valid = simp e at d }
+    let a = accepted (goal.at.returns-then-buffer-length c).In_ok-board in
+    let l = c.sheet_length-length.ensures ∙ ap (λ (x : Board). sheet_length (length x.routes)) a.1 in
+    let e = write_short b n a.0 (omega arith) in
+    record { answer = sym e; sheet = tt; later = tt; refused = λ _. refl; valid = refused_decides b n _ e }
 
-pub write_board-requires : goal.write_board-requires
-write_board-requires c =
-    let b : Board = board_with c.args.frame.now c.args.routes.now in
-    let each = (acceptance (first_no (routes_questions b.shape 0 b.routes)) tt _ c.in_ok-check_routes.ensures).0 in
+pub write-requires : goal.write-requires
+write-requires c =
     let room = ap length c.new-writer.ensures.buffer in
-    record {
-      few = c.if-routes-gt-ROUTE_LIMIT.false;
-      each = routes_valid b.shape 0 b.routes each;
-      start = c.new-writer.ensures.position;
-      room = omega arith;
-    }
+    record { start = c.new-writer.ensures.position; room = omega (arith, c.sheet_length-length.ensures) }
 
 pub returns : goal.returns
 returns c =
     let b : Board = board_with c.args.frame.now c.args.routes.now in
     let n : ℕ = length c.args.buffer.now in
-    let l = c.sheet_length-length.ensures in
-    let each = (acceptance (first_no (routes_questions b.shape 0 b.routes)) tt _ c.in_ok-check_routes.ensures).0 in
-    let e = write_fits b n c.if-routes-gt-ROUTE_LIMIT.false each (omega arith) in
-    let d = write_decides b n (frame_shape c.args.frame.now) in
-    let new = c.new-writer.ensures.buffer in
-    let placed : Placed c.args.buffer.now 0 (sheet_bits b) c.write_board.new.writer.buffer.now = simp new at c.write_board.ensures.placed in
+    let a = accepted (goal.at.returns c).In_ok-board in
+    let l = c.sheet_length-length.ensures ∙ ap (λ (x : Board). sheet_length (length x.routes)) a.1 in
+    let fits : sheet_length (length b.routes) ≤ n = omega arith in
+    let e = write_fits b n a.0 fits in
+    let shape : ValidShape b.shape = subst (λ (x : Board). ValidShape x.shape) a.1 c.write.ensures.shape in
+    let w : Placed c.new-writer.result.buffer.now c.new-writer.result.position (sheet_bits b) c.write.new.writer.buffer.now =
+    subst (λ (x : Board). Placed c.new-writer.result.buffer.now c.new-writer.result.position (sheet_bits x) c.write.new.writer.buffer.now) a.1 c.write.ensures.wrote.placed
+    in
+    let placed : Placed c.args.buffer.now 0 (sheet_bits b) c.write.new.writer.buffer.now =
+    simp (c.new-writer.ensures.buffer, c.new-writer.ensures.position) at w
+    in
     record {
       answer = ap Ok l ∙ sym e;
       sheet = ends_with_sheet b _ placed l (search rules);
       later = ends_as_before b _ placed l (search rules);
       refused = λ h. absurd (true≢false h);
-      valid = simp e at d;
+      valid = accepted_decides b n shape a.0 fits;
     }
