@@ -147,10 +147,7 @@ fn sheets_are_described(rt: HostRuntime) -> Result<(), Fail> {
 // The fault of the two-place sheet, read into so many entries.
 fn fault_with(entries: usize) -> Option<SheetFault> {
     let bytes = [0x02, 0x00, 0x04, 0x01, 0x00, 0x07, 0xff, 0xa0, 0x0e];
-    match Sheet::read(&bytes, entries) {
-        Ok(_) => None,
-        Err(fault) => Some(fault),
-    }
+    Sheet::read(&bytes, entries).err()
 }
 
 #[test]

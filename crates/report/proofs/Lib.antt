@@ -1,2 +1,0 @@
--- Lemmas on what the programs print.
-pub mod Lines
