@@ -37,10 +37,10 @@ pub fn field_at(bytes: &[u8], start: usize, field: Field) -> u16
 {
     let width = field.width();
     let index = start / 8;
-    let high = byte_at(bytes, index) as u32;
-    let middle = byte_at(bytes, index + 1) as u32;
-    let low = byte_at(bytes, index + 2) as u32;
-    let window = high * 65536 + middle * 256 + low;
+    let high = byte_at(bytes, index);
+    let middle = byte_at(bytes, index + 1);
+    let low = byte_at(bytes, index + 2);
+    let window = u32::from_be_bytes([0, high, middle, low]);
     let shifted = window >> (24 - start % 8 - width);
     (shifted & ((1 << width) - 1)) as u16
 }

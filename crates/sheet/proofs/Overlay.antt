@@ -1,6 +1,7 @@
 -- Writing a field's bits through a window of 24 bits.
-use Rattle.std.proofs.Common.{◌≡◌, ℕ, zero, suc, ◌+◌, ◌-◌, ◌*◌, ◌/◌, ◌%◌, ◌^◌, ◌<◌, ◌≤◌, List, [], ◌∷◌, ◌++◌, length, get_or, take, drop, set, sym, refl, ap, ◌∙◌, subst, ap₂, add-zero, arith}
+use Rattle.std.proofs.Common.{◌≡◌, ℕ, zero, suc, ◌+◌, ◌-◌, ◌*◌, ◌/◌, ◌%◌, ◌^◌, ◌<◌, ◌≤◌, List, [], ◌∷◌, ◌++◌, length, get_or, take, drop, set, sym, refl, ap, ◌∙◌, subst, ap₂, add-zero, arith, w32}
 use native.Mathlib.Nat.{zero-div}
+use Rattle.std.specs.Int.{to_be_bytes}
 use lib.Bits.{bit_and, bit_or}
 use lib.Seq.{take-append-add}
 use Rattle.std.proofs.lemmas.Nat.{pow_pos, pow-add, mod_below, shr_high, shl_below, shl-shr, shr_below, shl_whole, one_shl, and_mask, or_shifted, mul-add-lt}
@@ -68,6 +69,14 @@ window_front n old o w v ho hw h k =
 -- the three bytes of the window
 abbrev pub window_bytes : ℕ → List ℕ
 window_bytes n = n / 65536 ∷ n / 256 % 256 ∷ n % 256 ∷ []
+
+-- as the bytes of a number of 32 bits
+pub three_bytes : (l : List ℕ) (n : ℕ) → n < 2 ^ 24 → l ≡ to_be_bytes w32 n → (get_or l 1 0 ≡ n / 65536) × (get_or l 2 0 ≡ n / 256 % 256) × (get_or l 3 0 ≡ n % 256)
+three_bytes l n h e = (
+  ap (λ (x : List ℕ). get_or x 1 0) e ∙ omega arith,
+  ap (λ (x : List ℕ). get_or x 2 0) e ∙ omega arith,
+  ap (λ (x : List ℕ). get_or x 3 0) e ∙ omega arith,
+)
 
 bits_of_window : (n : ℕ) → bits_of (window_bytes n) ≡ digits 24 n
 unfolding bits_of

@@ -21,8 +21,8 @@ fn window(old: u8, offset: usize, width: usize, value: u16) -> u32
     ensures value { result ≡ window_of old offset width value }
     ensures small { result < 2 ^ 24 }
 {
-    let kept = old as u32 >> (8 - offset);
-    let new = value as u32 & ((1 << width) - 1);
+    let kept = u32::from(old) >> (8 - offset);
+    let new = u32::from(value) & ((1 << width) - 1);
     (kept << (24 - offset)) | (new << (24 - offset - width))
 }
 
@@ -35,12 +35,13 @@ pub(crate) fn put_at(buffer: &mut [u8], start: usize, field: Field, value: u16)
     let index = start / 8;
     let offset = start % 8;
     let window = window(buffer[index], offset, width, value);
-    buffer[index] = (window / 65536) as u8;
+    let [_, high, middle, low] = window.to_be_bytes();
+    buffer[index] = high;
     if offset + width > 8 {
-        buffer[index + 1] = (window / 256 % 256) as u8;
+        buffer[index + 1] = middle;
     }
     if offset + width > 16 {
-        buffer[index + 2] = (window % 256) as u8;
+        buffer[index + 2] = low;
     }
 }
 

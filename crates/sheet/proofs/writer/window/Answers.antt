@@ -8,4 +8,4 @@ returns c =
     let fits : a.old < 2 ^ 8 = omega arith in
     let e = window_is a.old a.offset a.width a.value fits c.requires.offset c.requires.width in
     let s = window_small a.old a.offset a.width a.value fits c.requires.offset c.requires.width in
-    record { value = e; small = omega arith }
+    rw (c.from.ensures, c.from-2.ensures) (record { value = e; small = omega arith })
