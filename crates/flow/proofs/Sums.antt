@@ -25,12 +25,9 @@ sum_in_plus (suc n) R f g = by (R n) (sum_in_plus n R f g)
 pub sum_in_same : (n : ℕ) (R : Region) (f g : ℕ → ℤ) → ((v : ℕ) → v < n → R v ≡ true → f v ≡ g v) → sum_in n R f ≡ sum_in n R g
 sum_in_same zero R f g h = refl
 sum_in_same (suc n) R f g h =
-    by (R n) (h n (omega arith)) (sum_in_same n R f g (λ v l. h v (omega arith)))
-  where
-    by : (t : Bool) → (t ≡ true → f n ≡ g n) → sum_in n R f ≡ sum_in n R g
-        → cond t (f n) (pos 0) +ℤ sum_in n R f ≡ cond t (g n) (pos 0) +ℤ sum_in n R g
-    by true h e = let k = h refl in omega (arith, ints)
-    by false h e = omega (arith, ints)
+    let here = h n (omega arith) in
+    let e = sum_in_same n R f g (λ v l. h v (omega arith)) in
+    grind (arith, ints)
 
 pub sum_in_minus : (n : ℕ) (R : Region) (f g : ℕ → ℤ) → sum_in n R (λ v. f v -ℤ g v) ≡ sum_in n R f -ℤ sum_in n R g
 sum_in_minus n R f g =
@@ -41,11 +38,7 @@ sum_in_minus n R f g =
 -- A sum of zeros is 0.
 pub sum_in_zero : (n : ℕ) (R : Region) → sum_in n R (λ v. pos 0) ≡ pos 0
 sum_in_zero zero R = refl
-sum_in_zero (suc n) R = by (R n) (sum_in_zero n R)
-  where
-    by : (t : Bool) → sum_in n R (λ v. pos 0) ≡ pos 0 → cond t (pos 0) (pos 0) +ℤ sum_in n R (λ v. pos 0) ≡ pos 0
-    by true e = omega (arith, ints)
-    by false e = omega (arith, ints)
+sum_in_zero (suc n) R = let e = sum_in_zero n R in grind (arith, ints)
 
 -- A function that is 0 but at one place sums to its value there, if the place is in the region.
 -- A function that is 0 at every place below n sums to 0 there.
@@ -61,51 +54,29 @@ sum_in_at (suc n) h R a l = ⊎_elim here (λ k. below k (sum_in_at n h R a (ome
     rest : ℤ
     rest = sum_in n R (λ v. cond (eqb h v) a (pos 0))
 
-    add-zero : (x y : ℤ) → y ≡ pos 0 → x +ℤ y ≡ x
-    add-zero x y e = omega (arith, ints)
-
-    zero-add : (t : Bool) (y z : ℤ) → y ≡ z → cond t (pos 0) (pos 0) +ℤ y ≡ z
-    zero-add true y z e = omega (arith, ints)
-    zero-add false y z e = omega (arith, ints)
-
     here : h ≡ n → cond (R n) (cond (eqb h n) a (pos 0)) (pos 0) +ℤ rest ≡ cond (R h) a (pos 0)
     here e =
+        let z = sum_in_apart n h R a (omega arith) in
         ap₂ (λ (t s : Bool). cond t (cond s a (pos 0)) (pos 0) +ℤ rest) (ap R (sym e)) (eq-eqb h n e)
-        ∙ add-zero (cond (R h) a (pos 0)) rest (sum_in_apart n h R a (omega arith))
+        ∙ omega (arith, ints)
 
     below : (h ≡ n → ⊥) → rest ≡ cond (R h) a (pos 0) → cond (R n) (cond (eqb h n) a (pos 0)) (pos 0) +ℤ rest ≡ cond (R h) a (pos 0)
-    below k e =
-        ap (λ (s : Bool). cond (R n) (cond s a (pos 0)) (pos 0) +ℤ rest) (ne_eqb h n k)
-        ∙ zero-add (R n) rest (cond (R h) a (pos 0)) e
+    below k e = let f = ne_eqb h n k in grind (arith, ints)
 
 -- Sums of numbers that are not negative.
 
 pub sum_in_least : (n : ℕ) (R : Region) (f : ℕ → ℤ) → ((v : ℕ) → pos 0 ≤ℤ f v) → pos 0 ≤ℤ sum_in n R f
 sum_in_least zero R f h = omega (arith, ints)
-sum_in_least (suc n) R f h = by (R n) (h n) (sum_in_least n R f h)
-  where
-    by : (t : Bool) → pos 0 ≤ℤ f n → pos 0 ≤ℤ sum_in n R f → pos 0 ≤ℤ (cond t (f n) (pos 0) +ℤ sum_in n R f)
-    by true a c = omega (arith, ints)
-    by false a c = omega (arith, ints)
+sum_in_least (suc n) R f h = let a = h n in let e = sum_in_least n R f h in grind (arith, ints)
 
 pub sum_in_most : (n : ℕ) (R : Region) (f : ℕ → ℤ) → ((v : ℕ) → pos 0 ≤ℤ f v) → sum_in n R f ≤ℤ sum_in n everywhere f
 sum_in_most zero R f h = omega (arith, ints)
-sum_in_most (suc n) R f h = by (R n) (h n) (sum_in_most n R f h)
-  where
-    by : (t : Bool) → pos 0 ≤ℤ f n → sum_in n R f ≤ℤ sum_in n everywhere f
-        → (cond t (f n) (pos 0) +ℤ sum_in n R f) ≤ℤ (f n +ℤ sum_in n everywhere f)
-    by true a c = omega (arith, ints)
-    by false a c = omega (arith, ints)
+sum_in_most (suc n) R f h = let a = h n in let e = sum_in_most n R f h in grind (arith, ints)
 
 -- A region that leaves out only zeros has the whole sum.
 pub sum_in_whole : (n : ℕ) (R : Region) (f : ℕ → ℤ) → ((v : ℕ) → v < n → R v ≡ false → f v ≡ pos 0) → sum_in n R f ≡ sum_in n everywhere f
 sum_in_whole zero R f h = refl
-sum_in_whole (suc n) R f h = by (R n) (h n (omega arith)) (sum_in_whole n R f (λ v l. h v (omega arith)))
-  where
-    by : (t : Bool) → (t ≡ false → f n ≡ pos 0) → sum_in n R f ≡ sum_in n everywhere f
-        → cond t (f n) (pos 0) +ℤ sum_in n R f ≡ f n +ℤ sum_in n everywhere f
-    by true k e = omega (arith, ints)
-    by false k e = let z = k refl in omega (arith, ints)
+sum_in_whole (suc n) R f h = let a = h n (omega arith) in let e = sum_in_whole n R f (λ v l. h v (omega arith)) in grind (arith, ints)
 
 -- A region with the whole sum has every place that adds to it.
 pub sum_in_has : (n : ℕ) (R : Region) (f : ℕ → ℤ) → ((v : ℕ) → pos 0 ≤ℤ f v) → sum_in n R f ≡ sum_in n everywhere f
@@ -119,8 +90,7 @@ sum_in_has (suc n) R f h e v l k =
   where
     parts : (t : Bool) → cond t (f n) (pos 0) +ℤ sum_in n R f ≡ f n +ℤ sum_in n everywhere f → sum_in n R f ≤ℤ sum_in n everywhere f
         → pos 0 ≤ℤ f n → (sum_in n R f ≡ sum_in n everywhere f) × (pos 0 <ℤ f n → t ≡ true)
-    parts true e l m = (omega (arith, ints), λ k. refl)
-    parts false e l m = (omega (arith, ints), λ k. absurd (omega (arith, ints)))
+    parts t e l m = (grind (arith, ints), λ k. grind (arith, ints))
 
 -- Numbers that are not negative and sum to 0 are all 0.
 pub sum_in_even : (n : ℕ) (f : ℕ → ℤ) → ((v : ℕ) → pos 0 ≤ℤ f v) → sum_in n everywhere f ≡ pos 0 → (v : ℕ) → v < n → f v ≡ pos 0
