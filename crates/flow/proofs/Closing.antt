@@ -1,5 +1,5 @@
 -- A region is closed exactly where as much goes through it as its marks allow.
-use Rattle.std.proofs.Common.{◌≡◌, Bool, true, cond, not, ◌&&◌, ◌⊎◌, List, [], ◌∷◌, ℤ, pos, ◌+ℤ◌, ◌-ℤ◌, ◌≤ℤ◌, ◌<ℤ◌, sym, refl, ◌∙◌, ap₂, inl, inr, arith}
+use Rattle.std.proofs.Common.{◌≡◌, Bool, true, cond, ◌⊎◌, List, [], ◌∷◌, ℤ, pos, ◌+ℤ◌, ◌-ℤ◌, ◌≤ℤ◌, ◌<ℤ◌, sym, refl, ◌∙◌, ap₂, inl, inr, arith}
 use Rattle.std.proofs.lemmas.Int.{ints}
 use Rattle.board.specs.declared.route.Route.{Route}
 use Rattle.flow.proofs.Bounds.{carried_at_most, carried_at_least, nets_sum}
@@ -35,18 +35,11 @@ full_by R p m one (r ∷ rs) (x ∷ xs) h c =
     ap₂ ◌+ℤ◌ (one r x h.0 h.1 (shut_first R r rs x xs c)) (full_by R p m one rs xs h.2 (shut_later R r rs x xs c))
 
 -- A route that leaves a closed region is at its ceiling, one that enters it at its floor.
-
-leaving_full : (s t : Bool) (x y : ℤ) → x ≤ℤ y → (s ≡ true → x <ℤ y → t ≡ true) → cond (s && not t) x (pos 0) ≡ cond (s && not t) y (pos 0)
-leaving_full s t x y l k = grind (arith, ints)
-
-entering_full : (s t : Bool) (x y : ℤ) → y ≤ℤ x → (t ≡ true → y <ℤ x → s ≡ true) → cond (not s && t) x (pos 0) ≡ cond (not s && t) y (pos 0)
-entering_full s t x y l k = grind (arith, ints)
-
 pub closed_is_full : ClosedIsFull
 closed_is_full rs xs R h c =
     ap₂ ◌-ℤ◌
-    (full_by R (leaves R) (λ r. r.ceiling) (λ r x _ high k. leaving_full (R r.start) (R r.end) x r.ceiling high k.along) rs xs h c)
-    (full_by R (enters R) (λ r. r.floor) (λ r x low _ k. entering_full (R r.start) (R r.end) x r.floor low k.against) rs xs h c)
+    (full_by R (leaves R) (λ r. r.ceiling) (λ r x low high k. grind (arith, ints)) rs xs h c)
+    (full_by R (enters R) (λ r. r.floor) (λ r x low high k. grind (arith, ints)) rs xs h c)
 
 -- Where a sum reaches its bound, each part does.
 parts_reached : (t : Bool) (x y a c : ℤ) → x ≤ℤ y → a ≤ℤ c → cond t x (pos 0) +ℤ a ≡ cond t y (pos 0) +ℤ c

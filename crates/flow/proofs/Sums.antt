@@ -1,7 +1,8 @@
 -- Sums over routes and over places.
-use Rattle.std.proofs.Common.{◌≡◌, ℕ, zero, suc, ◌<◌, ◌≤◌, Bool, true, false, cond, not, ◌&&◌, eqb, List, [], ◌∷◌, ℤ, pos, ◌+ℤ◌, ◌-ℤ◌, ◌≤ℤ◌, ◌<ℤ◌, sym, refl, ap, ◌∙◌, subst, ap₂, ⊎_elim, arith}
+use Rattle.std.proofs.Common.{◌≡◌, ℕ, zero, suc, ◌<◌, ◌≤◌, Bool, true, false, cond, not, ◌&&◌, eqb, List, [], ◌∷◌, ℤ, pos, ◌+ℤ◌, ◌-ℤ◌, ◌≤ℤ◌, ◌<ℤ◌, refl, ap, ◌∙◌, ap₂, ⊎_elim, arith}
 use Rattle.std.proofs.lemmas.Int.{ints}
 use Rattle.std.proofs.lemmas.Bool.{eq-eqb, ne_eqb, cases_eq}
+use Rattle.std.proofs.lemmas.Bool.Decides.{nat_tests}
 use Rattle.std.proofs.ByRecursion.{All-weaker}
 use Rattle.std.specs.List.{AllByRecursion}
 use Rattle.board.specs.declared.route.Route.{Route}
@@ -40,28 +41,19 @@ pub sum_in_zero : (n : ℕ) (R : Region) → sum_in n R (λ v. pos 0) ≡ pos 0
 sum_in_zero zero R = refl
 sum_in_zero (suc n) R = let e = sum_in_zero n R in grind (arith, ints)
 
--- A function that is 0 but at one place sums to its value there, if the place is in the region.
 -- A function that is 0 at every place below n sums to 0 there.
 sum_in_apart : (n h : ℕ) (R : Region) (a : ℤ) → n ≤ h → sum_in n R (λ v. cond (eqb h v) a (pos 0)) ≡ pos 0
 sum_in_apart n h R a l =
-    sum_in_same n R (λ v. cond (eqb h v) a (pos 0)) (λ v. pos 0) (λ v k _. ap (λ (t : Bool). cond t a (pos 0)) (ne_eqb h v (λ e. omega arith)))
-    ∙ sum_in_zero n R
+    sum_in_same n R (λ v. cond (eqb h v) a (pos 0)) (λ v. pos 0) (λ v k _. grind (arith, nat_tests)) ∙ sum_in_zero n R
 
+-- A function that is 0 but at one place sums to its value there, if the place is in the region.
 pub sum_in_at : (n h : ℕ) (R : Region) (a : ℤ) → h < n → sum_in n R (λ v. cond (eqb h v) a (pos 0)) ≡ cond (R h) a (pos 0)
 sum_in_at zero h R a l = absurd (omega arith)
-sum_in_at (suc n) h R a l = ⊎_elim here (λ k. below k (sum_in_at n h R a (omega arith))) (cases_eq h n)
-  where
-    rest : ℤ
-    rest = sum_in n R (λ v. cond (eqb h v) a (pos 0))
-
-    here : h ≡ n → cond (R n) (cond (eqb h n) a (pos 0)) (pos 0) +ℤ rest ≡ cond (R h) a (pos 0)
-    here e =
-        let z = sum_in_apart n h R a (omega arith) in
-        ap₂ (λ (t s : Bool). cond t (cond s a (pos 0)) (pos 0) +ℤ rest) (ap R (sym e)) (eq-eqb h n e)
-        ∙ omega (arith, ints)
-
-    below : (h ≡ n → ⊥) → rest ≡ cond (R h) a (pos 0) → cond (R n) (cond (eqb h n) a (pos 0)) (pos 0) +ℤ rest ≡ cond (R h) a (pos 0)
-    below k e = let f = ne_eqb h n k in grind (arith, ints)
+sum_in_at (suc n) h R a l =
+    ⊎_elim
+    (λ e. let z = sum_in_apart n h R a (omega arith) in let t = eq-eqb h n e in let r = ap R e in grind (arith, ints))
+    (λ k. let z = sum_in_at n h R a (omega arith) in let t = ne_eqb h n k in grind (arith, ints))
+    (cases_eq h n)
 
 -- Sums of numbers that are not negative.
 
@@ -83,14 +75,11 @@ pub sum_in_has : (n : ℕ) (R : Region) (f : ℕ → ℤ) → ((v : ℕ) → pos
     → (v : ℕ) → v < n → pos 0 <ℤ f v → R v ≡ true
 sum_in_has zero R f h e v l k = absurd (omega arith)
 sum_in_has (suc n) R f h e v l k =
-    let a = parts (R n) e (sum_in_most n R f h) (h n) in
-    ⊎_elim (λ i. ap R i ∙ a.1 (subst (λ (u : ℕ). pos 0 <ℤ f u) i k))
-    (λ i. sum_in_has n R f h a.0 v (omega arith) k)
+    let a = h n in
+    let c = sum_in_most n R f h in
+    ⊎_elim (λ i. let p = ap R i in let q = ap f i in grind (arith, ints))
+    (λ i. sum_in_has n R f h (grind (arith, ints)) v (omega arith) k)
     (cases_eq v n)
-  where
-    parts : (t : Bool) → cond t (f n) (pos 0) +ℤ sum_in n R f ≡ f n +ℤ sum_in n everywhere f → sum_in n R f ≤ℤ sum_in n everywhere f
-        → pos 0 ≤ℤ f n → (sum_in n R f ≡ sum_in n everywhere f) × (pos 0 <ℤ f n → t ≡ true)
-    parts t e l m = (grind (arith, ints), λ k. grind (arith, ints))
 
 -- Numbers that are not negative and sum to 0 are all 0.
 pub sum_in_even : (n : ℕ) (f : ℕ → ℤ) → ((v : ℕ) → pos 0 ≤ℤ f v) → sum_in n everywhere f ≡ pos 0 → (v : ℕ) → v < n → f v ≡ pos 0
