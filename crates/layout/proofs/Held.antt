@@ -14,7 +14,7 @@ use Rattle.bits.specs.declared.field.Field.TheVariants.{Places, Home, Port, Rout
 
 pub yes_first : {F : Type 0} (yes : Bool) (o : Option F) (f : F) → cond yes o (Some f) ≡ None → (yes ≡ true) × (o ≡ None)
 yes_first true o f e = (refl, e)
-yes_first false o f e = let z : ◌≡◌ {A = ℕ} 0 1 = cc in absurd (omega arith)
+yes_first false o f e = absurd cc
 
 pub field_held : (bits : List ℕ) (p : ℕ) (f : Field) (fs : List Field) → first_no (field_questions bits p (f ∷ fs)) ≡ None
     → (p + offset f + width f ≤ length bits) × (first_no (field_questions bits p fs) ≡ None)

@@ -2,7 +2,8 @@
 use Rattle.std.proofs.Common.{◌≡◌, ℕ, zero, suc, ◌+◌, ◌-◌, ◌%◌, ◌^◌, ◌<◌, ◌≤◌, Bool, true, cond, List, [], ◌∷◌, ◌++◌, length, drop, ℤ, pos, negsuc, nat_abs, ◌≤ℤ◌, Some, None, sym, refl, ap, ◌∙◌, ap₂, add-zero, mod-eq_of_lt, zero-add, arith}
 use Rattle.std.proofs.lemmas.List.{append_assoc, length-append, length-drop, length-replicate}
 use Rattle.std.proofs.lemmas.Int.{ints}
-use Rattle.std.proofs.lemmas.Bool.{le-leb, lt-ltb}
+use Rattle.std.proofs.lemmas.Bool.{le-leb, lt-ltb, cond-true}
+use Rattle.std.proofs.lemmas.Bool.Decides.{nat_tests}
 use Rattle.std.specs.List.{flat_map, AllByRecursion}
 use Rattle.board.proofs.First.{first_none, all_handed, handed_on}
 use Rattle.board.proofs.Valid.{shape_accepted, route_accepted}
@@ -23,14 +24,11 @@ use Rattle.bits.specs.declared.field.Field.{Field}
 use Rattle.bits.specs.declared.field.Field.TheVariants.{Places, Home, Port, Routes, Start, End, Floor, Ceiling}
 
 natural : (z : ℤ) → pos 0 ≤ℤ z → z ≤ℤ pos 4095 → (nat_abs z < 4096) × (pos (nat_abs z) ≡ z)
-natural (pos n) l u = (omega (arith, ints), refl)
-natural (negsuc n) l u = absurd (omega (arith, ints))
+natural z l u = (grind (arith, ints), grind (arith, ints))
 
 field_yes : (bits : List ℕ) (p : ℕ) (f : Field) (fs : List Field) → p + offset f + width f ≤ length bits
     → first_no (field_questions bits p fs) ≡ None → first_no (field_questions bits p (f ∷ fs)) ≡ None
-field_yes bits p f fs h e =
-    ap (λ (x : Bool). cond x (first_no (field_questions bits p fs)) (Some (record { bit = p + offset f }))) (le-leb (p + offset f + width f) (length bits) h)
-    ∙ e
+field_yes bits p f fs h e = cond-true _ _ _ (le-leb (p + offset f + width f) (length bits) h) ∙ e
 
 -- four fields that stand one after the other in what is left from bit p on
 module _ (bits : List ℕ) (p : ℕ) (a b c d : Field) (na nb nc nd : ℕ) (rest : List ℕ)
@@ -68,10 +66,10 @@ abbrev shape_from : ℕ → ℕ → ℕ → Shape
 shape_from a b c = record { places = a; home = b; port = c }
 
 same_shape : (s : Shape) (a b c : ℕ) → a ≡ s.places → b ≡ s.home → c ≡ s.port → shape_from a b c ≡ s
-same_shape s a b c p q f = ap₂ (λ (x y : ℕ). shape_from x y c) p q ∙ ap (λ (x : ℕ). shape_from s.places s.home x) f
+same_shape s a b c p q f = rw (p, q, f)
 
 same_route : (r : Route) (a b : ℕ) (c d : ℤ) → a ≡ r.start → b ≡ r.end → c ≡ r.floor → d ≡ r.ceiling → route_of a b c d ≡ r
-same_route r a b c d p q f g = ap₂ (λ (x y : ℕ). route_of x y c d) p q ∙ ap₂ (λ (x y : ℤ). route_of r.start r.end x y) f g
+same_route r a b c d p q f g = rw (p, q, f, g)
 
 -- one record
 record_back : (bits : List ℕ) (s : Shape) (k : ℕ) (r : Route) (rest : List ℕ) → s.places ≤ 128 → ValidRoute s r → drop (record_start k) bits ≡ record_bits r ++ rest
@@ -103,11 +101,11 @@ records_back : (bits : List ℕ) (s : Shape) (k : ℕ) (rs : List Route) (rest :
     → drop (record_start k) bits ≡ flat_map record_bits rs ++ rest
     → (routes_from bits k (length rs) ≡ rs) × (first_no (records_questions bits s k (length rs)) ≡ None) × (drop (record_start (k + length rs)) bits ≡ rest)
 unfolding routes_from records_questions
-records_back bits s k [] rest few v e = (refl, refl, ap (λ (x : ℕ). drop (record_start x) bits) (add-zero k) ∙ e)
+records_back bits s k [] rest few v e = (refl, refl, rw add-zero e)
 records_back bits s k (r ∷ rs) rest few v e =
     let one = record_back bits s k r (flat_map record_bits rs ++ rest) few v.0 (e ∙ append_assoc (record_bits r) (flat_map record_bits rs) rest) in
     let more = records_back bits s (suc k) rs rest few v.1 one.2 in (
-      ap₂ (λ (x : Route) (y : List Route). x ∷ y) one.0 more.0,
+      rw (one.0, more.0),
       first_none (record_questions bits s k) (records_questions bits s (suc k) (length rs)) one.1 ∙ more.1,
       ap (λ (x : ℕ). drop (record_start x) bits) (omega arith) ∙ more.2,
     )
@@ -128,9 +126,8 @@ header_back bits entries b rest v room e =
     let f₃ = f.3 ∙ mod-eq_of_lt {m = 2 ^ 10} (omega (arith, v.few)) in
     let shape : (stated bits).shape ≡ b.shape = same_shape b.shape _ _ _ f₀ f₁ f₂ in
     let n = stating bits 0 Routes in
-    let limits : first_no (limit_questions entries n) ≡ None =
-    ap₂ (λ (x y : Bool). cond x (cond y None (Some EntryLimit)) (Some RouteLimit)) (le-leb n 512 (omega (arith, f₃, v.few))) (le-leb n entries (omega (arith, f₃)))
-    in
+    let few = v.few in
+    let limits : first_no (limit_questions entries n) ≡ None = grind (arith, nat_tests) in
     let fields = field_questions bits 0 header_fields in
     let frames = frame_questions (stated bits).shape in
     let accepted : first_no frames ≡ None = ap (λ (x : Shape). first_no (frame_questions x)) shape ∙ shape_accepted b.shape w in (
@@ -155,8 +152,7 @@ end_back : (bits : List ℕ) (r z : ℕ) → z < 8 → record_start r ≤ length
 unfolding end_questions
 end_back bits r z h l e =
     let n : length bits - record_start r ≡ z = sym (length-drop (record_start r) bits) ∙ ap length e ∙ length-replicate z 0 in
-    ap₂ (λ (x y : Bool). cond x (cond y None (Some (Padding r (record_start r + zeros_before (drop (record_start r) bits))))) (Some (Trailing r)))
-    (lt-ltb (length bits - record_start r) 8 (omega arith)) (ap all_zero e ∙ all_zeros z)
+    rw (lt-ltb (length bits - record_start r) 8 (omega arith), ap all_zero e ∙ all_zeros z)
 
 -- the whole sheet
 pub sheet_back : (bits : List ℕ) (entries : ℕ) (b : Board) (z : ℕ) → Valid b → length b.routes ≤ entries → z < 8 → bits ≡ sheet_bits b ++ zeros z
@@ -168,13 +164,11 @@ sheet_back bits entries b z v room h e =
     let header = header_back bits entries b (flat_map record_bits b.routes ++ zeros z) v room (e ∙ append_assoc (header_bits b) (flat_map record_bits b.routes) (zeros z)) in
     let records = records_back bits b.shape 0 b.routes (zeros z) v.frame.few v.each header.3 in
     let long : record_start m ≤ length bits = omega (arith, ap length e, length-append (sheet_bits b) (zeros z), length_sheet_bits b) in
-    let tail : drop (record_start m) bits ≡ zeros z = ap (λ (x : ℕ). drop (record_start x) bits) (sym (zero-add m)) ∙ records.2 in
-    let asked : first_no (records_questions bits (stated bits).shape 0 n) ≡ None =
-    ap₂ (λ (x : Shape) (y : ℕ). first_no (records_questions bits x 0 y)) header.1 header.0 ∙ records.1
-    in
-    let last : first_no (end_questions bits n) ≡ None = ap (λ (x : ℕ). first_no (end_questions bits x)) header.0 ∙ end_back bits m z h long tail in (
+    let tail : drop (record_start m) bits ≡ zeros z = rw zero-add at records.2 in
+    let asked : first_no (records_questions bits (stated bits).shape 0 n) ≡ None = rw (header.1, header.0) records.1 in
+    let last : first_no (end_questions bits n) ≡ None = rw header.0 (end_back bits m z h long tail) in (
       first_none (header_questions entries bits ++ records_questions bits (stated bits).shape 0 n) (end_questions bits n)
           (first_none (header_questions entries bits) (records_questions bits (stated bits).shape 0 n) header.2 ∙ asked)
           ∙ last,
-      ap₂ (λ (x : Shape) (y : List Route). board_from x y) header.1 (ap (routes_from bits 0) header.0 ∙ records.0),
+      rw (header.1, header.0, records.0),
     )

@@ -53,13 +53,8 @@ module _ (bits : List ℕ) (binary : Binary bits) where
       let parts = record_parts bits s k e in
       let f = four_bits (record_start k) Start End Floor Ceiling refl refl refl refl parts.0 in
       let floor = narrowed_widened (stating bits (record_start k) Floor) (field_at_lt bits (record_start k + 14) 13 binary) in
-      let next : record_start k + 27 + 12 ≡ record_start (suc k) = omega arith in
-      let back : digits 13 (stating bits (record_start k) Floor) ≡ digits 13 (narrowed (widened (stating bits (record_start k) Floor))) = ap (digits 13) (sym floor) in (
-        f
-            ∙ ap₂
-            (λ (x : List ℕ) (y : ℕ). digits 7 (stating bits (record_start k) Start) ++ (digits 7 (stating bits (record_start k) End) ++ (x ++ (digits 12 (stating bits (record_start k) Ceiling) ++ drop y bits))))
-            back next
-            ∙ simp append_assoc,
+      let next : record_start (suc k) ≡ record_start k + 27 + 12 = omega arith in (
+        rw (floor, next) (f ∙ simp append_assoc),
         route_valid s (route_at bits (record_start k))
             parts.1,
       )
@@ -67,7 +62,7 @@ module _ (bits : List ℕ) (binary : Binary bits) where
   records_again : (s : Shape) (k n : ℕ) → first_no (records_questions bits s k n) ≡ None
       → (drop (record_start k) bits ≡ flat_map record_bits (routes_from bits k n) ++ drop (record_start (k + n)) bits) × AllByRecursion (ValidRoute s) (routes_from bits k n)
   unfolding routes_from
-  records_again s k zero e = (ap (λ (x : ℕ). drop (record_start x) bits) (sym (add-zero k)), tt)
+  records_again s k zero e = (rw add-zero, tt)
   records_again s k (suc n) e =
       let parts = records_parts bits s k n e in
       let one = record_again s k parts.0 in
@@ -84,13 +79,8 @@ module _ (bits : List ℕ) (binary : Binary bits) where
   unfolding header_bits stated
   header_again entries e =
       let parts = header_parts entries bits e in
-      let f = four_bits 0 Places Home Port Routes refl refl refl refl parts.0 in
-      let n : stating bits 0 Routes ≡ length (routes_from bits 0 (stating bits 0 Routes)) = sym (length_routes_from bits 0 (stating bits 0 Routes)) in (
-        f
-            ∙ ap
-            (λ (x : ℕ). digits 8 (stating bits 0 Places) ++ (digits 7 (stating bits 0 Home) ++ (digits 7 (stating bits 0 Port) ++ (digits 10 x ++ drop 32 bits))))
-            n
-            ∙ simp append_assoc,
+      let f = four_bits 0 Places Home Port Routes refl refl refl refl parts.0 in (
+        rw (length_routes_from bits 0 (stating bits 0 Routes)) (f ∙ simp append_assoc),
         shape_valid (stated bits).shape
             parts.1,
         parts.2,

@@ -12,7 +12,7 @@ length_routes_from bits k (suc n) = ap suc (length_routes_from bits (suc k) n)
 pub nth_routes_from : (bits : List ℕ) (k n j : ℕ) → j < n → Some (route_at bits (record_start (k + j))) ≡ nth (routes_from bits k n) j
 unfolding routes_from
 nth_routes_from bits k zero j h = absurd (omega arith)
-nth_routes_from bits k (suc n) zero h = ap (λ (x : ℕ). Some (route_at bits (record_start x))) (add-zero k)
+nth_routes_from bits k (suc n) zero h = rw add-zero
 nth_routes_from bits k (suc n) (suc j) h =
     ap (λ (x : ℕ). Some (route_at bits (record_start x))) (omega arith) ∙ nth_routes_from bits (suc k) n j (omega arith)
 
