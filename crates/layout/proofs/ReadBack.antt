@@ -1,5 +1,5 @@
 -- The sheet of a valid board states that board, and every question on it gets a yes.
-use Rattle.std.proofs.Common.{◌≡◌, ℕ, zero, suc, ◌+◌, ◌-◌, ◌%◌, ◌^◌, ◌<◌, ◌≤◌, Bool, true, cond, List, [], ◌∷◌, ◌++◌, length, drop, ℤ, pos, negsuc, nat_abs, ◌≤ℤ◌, Some, None, sym, refl, ap, ◌∙◌, ap₂, add-zero, mod-eq_of_lt, zero-add, arith}
+use Rattle.std.proofs.Common.{◌≡◌, ℕ, zero, suc, ◌+◌, ◌-◌, ◌%◌, ◌^◌, ◌<◌, ◌≤◌, true, List, [], ◌∷◌, ◌++◌, length, drop, ℤ, pos, nat_abs, ◌≤ℤ◌, None, sym, refl, ap, ◌∙◌, add-zero, mod-eq_of_lt, zero-add, arith}
 use Rattle.std.proofs.lemmas.List.{append_assoc, length-append, length-drop, length-replicate}
 use Rattle.std.proofs.lemmas.Int.{ints}
 use Rattle.std.proofs.lemmas.Bool.{le-leb, lt-ltb, cond-true}
@@ -17,9 +17,9 @@ use Rattle.bits.specs.Bits.{digits, zeros}
 use Rattle.bits.specs.Fields.{width, offset, record_start, header_fields, record_fields}
 use Rattle.bits.specs.Signed.{narrowed, widened}
 use Rattle.layout.specs.Format.{header_bits, record_bits, sheet_bits}
-use Rattle.layout.specs.Questions.{field_questions, limit_questions, header_questions, order_questions, record_questions, records_questions, all_zero, zeros_before, end_questions, sheet_questions, sheet_fault}
+use Rattle.layout.specs.Questions.{field_questions, limit_questions, header_questions, order_questions, record_questions, records_questions, all_zero, end_questions, sheet_questions, sheet_fault}
 use Rattle.layout.specs.Stated.{stating, route_at, routes_from, stated}
-use Rattle.layout.specs.declared.fault.SheetFault.TheVariants.{Bits, Frame, Order, RouteLimit, EntryLimit, Trailing, Padding}
+use Rattle.layout.specs.declared.fault.SheetFault.TheVariants.{Bits, Frame, Order}
 use Rattle.bits.specs.declared.field.Field.{Field}
 use Rattle.bits.specs.declared.field.Field.TheVariants.{Places, Home, Port, Routes, Start, End, Floor, Ceiling}
 
@@ -59,18 +59,6 @@ module _ (bits : List ℕ) (p : ℕ) (a b c d : Field) (na nb nc nd : ℕ) (rest
         sd.2,
       )
 
-abbrev route_of : ℕ → ℕ → ℤ → ℤ → Route
-route_of a b c d = record { start = a; end = b; floor = c; ceiling = d }
-
-abbrev shape_from : ℕ → ℕ → ℕ → Shape
-shape_from a b c = record { places = a; home = b; port = c }
-
-same_shape : (s : Shape) (a b c : ℕ) → a ≡ s.places → b ≡ s.home → c ≡ s.port → shape_from a b c ≡ s
-same_shape s a b c p q f = rw (p, q, f)
-
-same_route : (r : Route) (a b : ℕ) (c d : ℤ) → a ≡ r.start → b ≡ r.end → c ≡ r.floor → d ≡ r.ceiling → route_of a b c d ≡ r
-same_route r a b c d p q f g = rw (p, q, f, g)
-
 -- one record
 record_back : (bits : List ℕ) (s : Shape) (k : ℕ) (r : Route) (rest : List ℕ) → s.places ≤ 128 → ValidRoute s r → drop (record_start k) bits ≡ record_bits r ++ rest
     → (route_at bits (record_start k) ≡ r) × (first_no (record_questions bits s k) ≡ None) × (drop (record_start (suc k)) bits ≡ rest)
@@ -87,7 +75,7 @@ record_back bits s k r rest few v e =
     let f₁ = f.1 ∙ mod-eq_of_lt {m = 2 ^ 7} (omega (arith, v.end_inside)) in
     let f₂ = ap widened (f.2 ∙ mod-eq_of_lt {m = 2 ^ 13} n) ∙ widened_narrowed r.floor v.floor_low top in
     let f₃ = ap pos (f.3 ∙ mod-eq_of_lt {m = 2 ^ 12} c.0) ∙ c.1 in
-    let route : route_at bits (record_start k) ≡ r = same_route r _ _ _ _ f₀ f₁ f₂ f₃ in (
+    let route : route_at bits (record_start k) ≡ r = rw (f₀, f₁, f₂, f₃) in (
       route,
       handed_on Bits (field_questions bits (record_start k) record_fields) (handed_up Order (order_questions s k (route_at bits (record_start k)))) f.4
           ∙ all_handed Order (order_questions s k (route_at bits (record_start k)))
@@ -124,7 +112,7 @@ header_back bits entries b rest v room e =
     let f₁ = f.1 ∙ mod-eq_of_lt {m = 2 ^ 7} (omega (arith, w.few, w.home_inside)) in
     let f₂ = f.2 ∙ mod-eq_of_lt {m = 2 ^ 7} (omega (arith, w.few, w.port_inside)) in
     let f₃ = f.3 ∙ mod-eq_of_lt {m = 2 ^ 10} (omega (arith, v.few)) in
-    let shape : (stated bits).shape ≡ b.shape = same_shape b.shape _ _ _ f₀ f₁ f₂ in
+    let shape : (stated bits).shape ≡ b.shape = rw (f₀, f₁, f₂) in
     let n = stating bits 0 Routes in
     let few = v.few in
     let limits : first_no (limit_questions entries n) ≡ None = grind (arith, nat_tests) in
@@ -138,9 +126,6 @@ header_back bits entries b rest v room e =
           ∙ limits,
       f.5,
     )
-
-abbrev board_from : Shape → List Route → Board
-board_from s rs = record { shape = s; routes = rs }
 
 all_zeros : (n : ℕ) → all_zero (zeros n) ≡ true
 unfolding all_zero

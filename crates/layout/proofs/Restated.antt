@@ -15,7 +15,6 @@ use Rattle.layout.proofs.Stated.{length_routes_from}
 use Rattle.bits.proofs.TwosComplement.{narrowed_widened}
 use Rattle.bits.specs.Bits.{digits, zeros, fill}
 use Rattle.bits.specs.Fields.{width, offset, record_start}
-use Rattle.bits.specs.Signed.{narrowed, widened}
 use Rattle.layout.specs.Format.{header_bits, record_bits, sheet_bits}
 use Rattle.layout.specs.Questions.{field_questions, header_questions, record_questions, records_questions, all_zero, zeros_before, end_questions, sheet_questions, sheet_fault}
 use Rattle.layout.specs.Stated.{stating, route_at, routes_from, stated}
@@ -38,12 +37,7 @@ module _ (bits : List ℕ) (binary : Binary bits) where
       let at : (f : Field) (q : ℕ) → q ≡ p + offset f → p + offset f + width f ≤ length bits → drop q bits ≡ digits (width f) (stating bits p f) ++ drop (p + offset f + width f) bits =
       λ f q g h. ap (λ (x : ℕ). drop x bits) g ∙ field_bits bits (p + offset f) (width f) binary h
       in
-      at a p (omega arith) ha.0
-      ∙ ap (λ (x : List ℕ). digits (width a) (stating bits p a) ++ x)
-      (at b (p + offset a + width a) (omega arith) hb.0
-      ∙ ap (λ (x : List ℕ). digits (width b) (stating bits p b) ++ x)
-      (at c (p + offset b + width b) (omega arith) hc.0
-      ∙ ap (λ (x : List ℕ). digits (width c) (stating bits p c) ++ x) (at d (p + offset c + width c) (omega arith) hd.0)))
+      rw (at a p (omega arith) ha.0, at b (p + offset a + width a) (omega arith) hb.0, at c (p + offset b + width b) (omega arith) hc.0, at d (p + offset c + width c) (omega arith) hd.0)
 
   -- one record
   record_again : (s : Shape) (k : ℕ) → first_no (record_questions bits s k) ≡ None
@@ -66,10 +60,9 @@ module _ (bits : List ℕ) (binary : Binary bits) where
   records_again s k (suc n) e =
       let parts = records_parts bits s k n e in
       let one = record_again s k parts.0 in
-      let more = records_again s (suc k) n parts.1 in (
-        one.0
-            ∙ ap (λ (x : List ℕ). record_bits (route_at bits (record_start k)) ++ x) (more.0 ∙ ap (λ (x : ℕ). flat_map record_bits (routes_from bits (suc k) n) ++ drop (record_start x) bits) (omega arith))
-            ∙ sym (append_assoc (record_bits (route_at bits (record_start k))) (flat_map record_bits (routes_from bits (suc k) n)) (drop (record_start (k + suc n)) bits)),
+      let more = records_again s (suc k) n parts.1 in
+      let step : suc k + n ≡ k + suc n = omega arith in (
+        rw (one.0, more.0, step) (simp append_assoc),
         (one.1, more.1),
       )
 
@@ -130,10 +123,5 @@ sheet_again bits entries m binary whole e =
     in (
       record { frame = header.1; few = omega (arith, header.2); each = records.1 },
       omega (arith, header.3),
-      header.0
-          ∙ ap (λ (x : List ℕ). header_bits (stated bits) ++ x)
-          (records.0
-          ∙ ap (λ (x : List ℕ). flat_map record_bits (routes_from bits 0 n) ++ x)
-          (ap (λ (x : ℕ). drop (record_start x) bits) (zero-add n) ∙ end.1 ∙ ap zeros pad))
-          ∙ sym (append_assoc (header_bits (stated bits)) (flat_map record_bits (routes_from bits 0 n)) (zeros (fill (length (sheet_bits (stated bits)))))),
+      header.0 ∙ rw (records.0, zero-add n, end.1, pad) (simp append_assoc),
     )

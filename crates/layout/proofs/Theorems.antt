@@ -1,5 +1,5 @@
 -- The theorems about every sheet.
-use Rattle.std.proofs.Common.{◌≡◌, ℕ, List, length, Some, None, Ok, Err, Option, Result, sym, refl, ◌∙◌, subst, ap₂, arith}
+use Rattle.std.proofs.Common.{◌≡◌, ℕ, List, length, Some, None, Ok, Err, Option, Result, sym, refl, ◌∙◌, arith}
 use Rattle.board.specs.Board.{Board, Valid}
 use Rattle.board.specs.Questions.{answer}
 use Rattle.bits.proofs.Bits.{binary_bits_of, length_bits_of}
