@@ -26,7 +26,7 @@ passes (Some f) = false
 
 passed : {F : Type 0} (o : Option F) → passes o ≡ true → o ≡ None
 passed None h = refl
-passed (Some f) h = absurd (false≢true h)
+passed (Some f) h = cc
 
 abbrev are_routes : Shape → List Route → Bool
 are_routes s [] = true

@@ -36,7 +36,7 @@ module _ (bits : List ℕ) (p : ℕ) (a b c d : Field) (na nb nc nd : ℕ) (rest
     (pa : 0 < width a) (pb : 0 < width b) (pc : 0 < width c) (pd : 0 < width d)
     (e : drop p bits ≡ digits (width a) na ++ (digits (width b) nb ++ (digits (width c) nc ++ (digits (width d) nd ++ rest)))) where
   moved : (q q' : ℕ) (xs : List ℕ) → drop q bits ≡ xs → q' ≡ q → drop q' bits ≡ xs
-  moved q q' xs h g = ap (λ (x : ℕ). drop x bits) g ∙ h
+  moved q q' xs h g = rw g h
 
   pub four_stand :
       (stating bits p a ≡ na % 2 ^ width a) × (stating bits p b ≡ nb % 2 ^ width b) × (stating bits p c ≡ nc % 2 ^ width c) × (stating bits p d ≡ nd % 2 ^ width d)

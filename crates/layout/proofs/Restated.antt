@@ -49,8 +49,7 @@ module _ (bits : List ℕ) (binary : Binary bits) where
       let floor = narrowed_widened (stating bits (record_start k) Floor) (field_at_lt bits (record_start k + 14) 13 binary) in
       let next : record_start (suc k) ≡ record_start k + 27 + 12 = omega arith in (
         rw (floor, next) (f ∙ simp append_assoc),
-        route_valid s (route_at bits (record_start k))
-            parts.1,
+        route_valid s (route_at bits (record_start k)) parts.1,
       )
 
   records_again : (s : Shape) (k n : ℕ) → first_no (records_questions bits s k n) ≡ None
@@ -74,8 +73,7 @@ module _ (bits : List ℕ) (binary : Binary bits) where
       let parts = header_parts entries bits e in
       let f = four_bits 0 Places Home Port Routes refl refl refl refl parts.0 in (
         rw (length_routes_from bits 0 (stating bits 0 Routes)) (f ∙ simp append_assoc),
-        shape_valid (stated bits).shape
-            parts.1,
+        shape_valid (stated bits).shape parts.1,
         parts.2,
         parts.3,
       )
@@ -85,16 +83,15 @@ unfolding all_zero
 zeros_again [] e = refl
 zeros_again (x ∷ xs) e =
     let b = and_parts (eqb x 0) (all_zero xs) e in
-    ap₂ (λ (y : ℕ) (ys : List ℕ). y ∷ ys) (eqb-true x 0 b.0) (zeros_again xs b.1)
+    rw (eqb-true x 0 b.0) (ap (λ (ys : List ℕ). 0 ∷ ys) (zeros_again xs b.1))
 
 -- what is left after the records
 end_again : (bits : List ℕ) (r : ℕ) → first_no (end_questions bits r) ≡ None
     → (length bits - record_start r < 8) × (drop (record_start r) bits ≡ zeros (length bits - record_start r))
 unfolding end_questions
 end_again bits r e =
-    let padding = Padding r (record_start r + zeros_before (drop (record_start r) bits)) in
-    let few = yes_first (ltb (length bits - record_start r) 8) (cond (all_zero (drop (record_start r) bits)) None (Some padding)) (Trailing r) e in
-    let rest = yes_first (all_zero (drop (record_start r) bits)) None padding few.1 in (
+    let few = yes_first (ltb (length bits - record_start r) 8) _ _ e in
+    let rest = yes_first (all_zero (drop (record_start r) bits)) _ _ few.1 in (
       ltb-true (length bits - record_start r) 8 few.0,
       zeros_again (drop (record_start r) bits) rest.0 ∙ ap zeros (length-drop (record_start r) bits),
     )
