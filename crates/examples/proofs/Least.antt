@@ -2,7 +2,7 @@
 use Rattle.std.proofs.Common.{◌≡◌, ℕ, zero, suc, ◌<◌, Bool, true, cond, not, ◌&&◌, ℤ, neg_ℤ, ◌≤ℤ◌, Decides, sym, refl, ◌∙◌, ap₂, arith}
 use lib.Signed.{le_z}
 use Rattle.std.proofs.lemmas.Int.{ints}
-use Rattle.std.proofs.lemmas.Bool.{and_parts, not-true}
+use Rattle.std.proofs.lemmas.Bool.{and_parts}
 use Rattle.std.proofs.lemmas.Bool.Decides.{Decides-below_and}
 use Rattle.board.specs.Board.{Board}
 use Rattle.flow.proofs.Sums.{width_same}
@@ -113,9 +113,9 @@ separates_test b S s = grind arith
 pub narrowest : (b : Board) (R : Region) (d : ℤ) → Network b → is_least separating b R d ≡ true → Narrowest b R d
 narrowest b R d net h =
     let t = least_tested separating b R d net h in
-    let k = and_parts (R b.shape.home) _ t.kind in
+    let k = t.kind in
     record {
-      separates = record { home = k.0; port = not-true (R b.shape.port) k.1 };
+      separates = record { home = grind arith; port = grind arith };
       wide = t.wide;
       least = λ S s. t.least S (separates_test b S s);
       inside = λ S s. t.inside S (separates_test b S s);
