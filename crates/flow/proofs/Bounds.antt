@@ -90,10 +90,6 @@ ends_apart b R f w =
     ∙ ap (λ (y : ℤ). y +ℤ sum_in n R (innerly b f))
     (sum_in_plus n R at_home at_port ∙ ap₂ ◌+ℤ◌ (sum_in_at n h R (f h) w.home) (sum_in_at n p R (f p) w.port))
 
--- A number that is 0 at every inner place.
-even : (h p v : ℕ) (x : ℤ) → ((v ≡ h → ⊥) → (v ≡ p → ⊥) → x ≡ pos 0) → cond (not (eqb v h) && not (eqb v p)) x (pos 0) ≡ pos 0
-even h p v x k = grind (arith, nat_tests)
-
 -- In a flow the inner places count for nothing.
 pub flow_through : (b : Board) (xs : List ℤ) (R : Region) → Network b → Flow b xs
     → through b.routes xs R
@@ -102,7 +98,7 @@ flow_through b xs R w fl =
     let n = b.shape.places in
     let f = net b.routes xs in
     let zero_inside : sum_in n R (innerly b f) ≡ pos 0 =
-    sum_in_same n R (innerly b f) (λ v. pos 0) (λ v l _. even b.shape.home b.shape.port v (f v) (fl.balanced v l)) ∙ sum_in_zero n R
+    sum_in_same n R (innerly b f) (λ v. pos 0) (λ v l _. let k = fl.balanced v l in grind (arith, nat_tests)) ∙ sum_in_zero n R
     in
     let parts = ends_apart b R f w in
     let whole = nets_sum n b.routes xs R w.routes in

@@ -1,5 +1,5 @@
 -- Bits whose questions get a yes each are the sheet of the board that they state, and that board is valid.
-use Rattle.std.proofs.Common.{◌≡◌, ℕ, zero, suc, ◌+◌, ◌-◌, ◌*◌, ◌<◌, ◌≤◌, true, cond, eqb, ltb, List, [], ◌∷◌, ◌++◌, length, drop, Some, None, sym, refl, ap, ◌∙◌, ap₂, add-zero, zero-add, arith}
+use Rattle.std.proofs.Common.{◌≡◌, ℕ, zero, suc, ◌+◌, ◌-◌, ◌*◌, ◌<◌, ◌≤◌, true, eqb, ltb, List, [], ◌∷◌, ◌++◌, length, drop, None, sym, refl, ap, ◌∙◌, add-zero, zero-add, arith}
 use Rattle.std.proofs.lemmas.List.{append_assoc, length-drop}
 use Rattle.std.proofs.lemmas.Bool.{ltb-true, eqb-true, and_parts}
 use Rattle.std.specs.List.{flat_map, AllByRecursion}
@@ -16,9 +16,8 @@ use Rattle.bits.proofs.TwosComplement.{narrowed_widened}
 use Rattle.bits.specs.Bits.{digits, zeros, fill}
 use Rattle.bits.specs.Fields.{width, offset, record_start}
 use Rattle.layout.specs.Format.{header_bits, record_bits, sheet_bits}
-use Rattle.layout.specs.Questions.{field_questions, header_questions, record_questions, records_questions, all_zero, zeros_before, end_questions, sheet_questions, sheet_fault}
+use Rattle.layout.specs.Questions.{field_questions, header_questions, record_questions, records_questions, all_zero, end_questions, sheet_questions, sheet_fault}
 use Rattle.layout.specs.Stated.{stating, route_at, routes_from, stated}
-use Rattle.layout.specs.declared.fault.SheetFault.TheVariants.{Trailing, Padding}
 use Rattle.bits.specs.declared.field.Field.{Field}
 use Rattle.bits.specs.declared.field.Field.TheVariants.{Places, Home, Port, Routes, Start, End, Floor, Ceiling}
 

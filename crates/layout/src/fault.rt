@@ -148,8 +148,7 @@ impl SheetFault {
         ensures { result ≡ record_of self }
     {
         match self {
-            SheetFault::Bits(fault) => fault
-                .bit
+            SheetFault::Bits(BitFault { bit }) => bit
                 .checked_sub(HEADER_BITS)
                 .map_or(0, |past| past / RECORD_BITS + 1),
             SheetFault::Frame(_) | SheetFault::RouteLimit | SheetFault::EntryLimit => 0,
