@@ -1,5 +1,5 @@
 -- Nets sum to what goes through a region, and what that bounds.
-use Rattle.std.proofs.Common.{◌≡◌, ℕ, ◌<◌, Bool, true, false, cond, not, ◌&&◌, eqb, List, [], ◌∷◌, ℤ, pos, ◌+ℤ◌, ◌-ℤ◌, neg_ℤ, ◌≤ℤ◌, refl, ap, ◌∙◌, ap₂, arith}
+use Rattle.std.proofs.Common.{◌≡◌, ℕ, ◌<◌, Bool, false, cond, not, ◌&&◌, eqb, List, [], ◌∷◌, ℤ, pos, ◌+ℤ◌, ◌-ℤ◌, neg_ℤ, ◌≤ℤ◌, refl, ap, ◌∙◌, ap₂, arith}
 use Rattle.std.proofs.ByRecursion.{All-weaker}
 use Rattle.std.proofs.lemmas.Int.{ints}
 use Rattle.std.proofs.lemmas.Bool.Decides.{nat_tests}
@@ -31,20 +31,16 @@ sum_by e n (r ∷ rs) (x ∷ xs) R js =
     ∙ ap₂ ◌+ℤ◌ (sum_in_at n (e r) R x js.0) (sum_by e n rs xs R js.1)
 
 -- A route with both ends in the region, or none, counts for nothing.
+
+crosses : (s t : Bool) (x : ℤ) → cond s x (pos 0) -ℤ cond t x (pos 0) ≡ cond (s && not t) x (pos 0) -ℤ cond (not s && t) x (pos 0)
+crosses s t x = grind (arith, ints)
+
 crossing : (R : Region) (rs : List Route) (xs : List ℤ)
     → carried (λ r. R r.start) rs xs -ℤ carried (λ r. R r.end) rs xs ≡ through rs xs R
 crossing R [] xs = refl
 crossing R (r ∷ rs) [] = refl
-crossing R (r ∷ rs) (x ∷ xs) = by (R r.start) (R r.end) (crossing R rs xs)
-  where
-    by : (s t : Bool)
-        → carried (λ r. R r.start) rs xs -ℤ carried (λ r. R r.end) rs xs ≡ through rs xs R
-        → (cond s x (pos 0) +ℤ carried (λ r. R r.start) rs xs) -ℤ (cond t x (pos 0) +ℤ carried (λ r. R r.end) rs xs)
-        ≡ (cond (s && not t) x (pos 0) +ℤ carried (leaves R) rs xs) -ℤ (cond (not s && t) x (pos 0) +ℤ carried (enters R) rs xs)
-    by true true e = omega (arith, ints)
-    by true false e = omega (arith, ints)
-    by false true e = omega (arith, ints)
-    by false false e = omega (arith, ints)
+crossing R (r ∷ rs) (x ∷ xs) =
+    let e = crossing R rs xs in let here = crosses (R r.start) (R r.end) x in omega (arith, ints)
 
 pub nets_sum : NetsSum
 nets_sum n rs xs R js =

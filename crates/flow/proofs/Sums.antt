@@ -10,17 +10,16 @@ use Rattle.flow.specs.Flow.{Joins}
 use Rattle.flow.specs.Regions.{Region, leaves, enters, marks, width}
 use Rattle.flow.specs.Imbalance.{everywhere, sum_in}
 
+-- What counts of a sum of two is what counts of each.
+pub counted_plus : (t : Bool) (x y : ℤ) → cond t (x +ℤ y) (pos 0) ≡ cond t x (pos 0) +ℤ cond t y (pos 0)
+counted_plus t x y = grind (arith, ints)
+
 -- Sums over the places of a region.
 
 pub sum_in_plus : (n : ℕ) (R : Region) (f g : ℕ → ℤ) → sum_in n R (λ v. f v +ℤ g v) ≡ sum_in n R f +ℤ sum_in n R g
 sum_in_plus zero R f g = refl
-sum_in_plus (suc n) R f g = by (R n) (sum_in_plus n R f g)
-  where
-    by : (t : Bool) → sum_in n R (λ v. f v +ℤ g v) ≡ sum_in n R f +ℤ sum_in n R g
-        → cond t (f n +ℤ g n) (pos 0) +ℤ sum_in n R (λ v. f v +ℤ g v)
-        ≡ (cond t (f n) (pos 0) +ℤ sum_in n R f) +ℤ (cond t (g n) (pos 0) +ℤ sum_in n R g)
-    by true e = omega (arith, ints)
-    by false e = omega (arith, ints)
+sum_in_plus (suc n) R f g =
+    let e = sum_in_plus n R f g in let here = counted_plus (R n) (f n) (g n) in omega (arith, ints)
 
 -- Functions that agree on the places of the region have the same sum.
 pub sum_in_same : (n : ℕ) (R : Region) (f g : ℕ → ℤ) → ((v : ℕ) → v < n → R v ≡ true → f v ≡ g v) → sum_in n R f ≡ sum_in n R g
