@@ -1,9 +1,10 @@
 -- What tests show of a board: that it is valid, that shares are a flow, and what its right answer is.
-use Rattle.std.proofs.Common.{◌≡◌, Bool, true, false, ◌&&◌, leb, List, [], ◌∷◌, length, ℤ, pos, neg_ℤ, ◌<ℤ◌, Some, None, Option, sym, refl, arith}
+use Rattle.std.proofs.Common.{◌≡◌, Bool, true, false, ◌&&◌, leb, List, [], ◌∷◌, length, ℤ, pos, neg_ℤ, ◌<ℤ◌, None, Option, sym, arith}
 use lib.Signed.{le_z}
 use Rattle.std.proofs.lemmas.Int.{ints}
 use Rattle.std.proofs.lemmas.Bool.{and_parts, leb-true, false≢true}
 use Rattle.std.specs.List.{AllByRecursion}
+use Rattle.std.specs.Option.{is_none}
 use Rattle.board.proofs.Valid.{shape_valid, route_valid}
 use Rattle.board.specs.Board.{Board, Shape, Valid, ValidRoute}
 use Rattle.board.specs.Questions.{first_no, frame_questions, route_questions}
@@ -19,31 +20,26 @@ use Rattle.examples.proofs.Least.{separating, together, is_least, narrowest, mos
 
 -- Valid boards.
 
--- Whether no question gets a no.
-abbrev passes : {F : Type 0} → Option F → Bool
-passes None = true
-passes (Some f) = false
-
-passed : {F : Type 0} (o : Option F) → passes o ≡ true → o ≡ None
-passed None h = refl
-passed (Some f) h = absurd (false≢true h)
+-- No question gets a no.
+passed : {F : Type 0} (o : Option F) → is_none o ≡ true → o ≡ None
+passed o h = grind arith
 
 abbrev are_routes : Shape → List Route → Bool
 are_routes s [] = true
-are_routes s (r ∷ rs) = passes (first_no (route_questions s r)) && are_routes s rs
+are_routes s (r ∷ rs) = is_none (first_no (route_questions s r)) && are_routes s rs
 
 are_routes_lem : (s : Shape) (rs : List Route) → are_routes s rs ≡ true → AllByRecursion (ValidRoute s) rs
 are_routes_lem s [] h = tt
 are_routes_lem s (r ∷ rs) h =
-    let p = and_parts (passes (first_no (route_questions s r))) _ h in
+    let p = and_parts (is_none (first_no (route_questions s r))) _ h in
     (route_valid s r (passed _ p.0), are_routes_lem s rs p.1)
 
 abbrev pub is_valid : Board → Bool
-is_valid b = passes (first_no (frame_questions b.shape)) && (leb (length b.routes) 512 && are_routes b.shape b.routes)
+is_valid b = is_none (first_no (frame_questions b.shape)) && (leb (length b.routes) 512 && are_routes b.shape b.routes)
 
 pub valid : (b : Board) → is_valid b ≡ true → Valid b
 valid b h =
-    let p = and_parts (passes (first_no (frame_questions b.shape))) _ h in
+    let p = and_parts (is_none (first_no (frame_questions b.shape))) _ h in
     let q = and_parts (leb (length b.routes) 512) _ p.1 in
     record {
       frame = shape_valid b.shape (passed _ p.0);

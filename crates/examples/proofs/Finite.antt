@@ -1,6 +1,7 @@
 -- What holds of all regions of a board follows from a test of finitely many.
-use Rattle.std.proofs.Common.{◌≡◌, ℕ, zero, suc, ◌<◌, Bool, true, false, cond, ◌&&◌, eqb, sym, ap, ◌∙◌, ⊎_elim, arith}
-use Rattle.std.proofs.lemmas.Bool.{and_parts, cases_eq, cond-true, cond-false, eq-eqb, ne_eqb}
+use Rattle.std.proofs.Common.{◌≡◌, ℕ, zero, suc, ◌<◌, Bool, true, false, cond, ◌&&◌, eqb, ap, ⊎_elim, arith}
+use Rattle.std.proofs.lemmas.Bool.{and_parts, cases_eq}
+use Rattle.std.proofs.lemmas.Bool.Decides.{nat_tests}
 use Rattle.flow.specs.Regions.{Region}
 
 -- A region with place n put in or left out.
@@ -29,13 +30,11 @@ every_cut (suc n) p S h =
 
 cut_same : (n : ℕ) (S : Region) (v : ℕ) → v < n → cut n S v ≡ S v
 cut_same zero S v h = absurd (omega arith)
-cut_same (suc n) S v h = ⊎_elim here (λ k. below k (cut_same n S v (omega arith))) (cases_eq v n)
-  where
-    here : v ≡ n → put n (S n) (cut n S) v ≡ S v
-    here e = cond-true (eqb v n) (S n) (cut n S v) (eq-eqb v n e) ∙ ap S (sym e)
-
-    below : (v ≡ n → ⊥) → cut n S v ≡ S v → put n (S n) (cut n S) v ≡ S v
-    below k e = cond-false (eqb v n) (S n) (cut n S v) (ne_eqb v n k) ∙ e
+cut_same (suc n) S v h =
+    ⊎_elim
+    (λ e. let p = ap S e in grind (arith, nat_tests))
+    (λ k. let e = cut_same n S v (omega arith) in grind (arith, nat_tests))
+    (cases_eq v n)
 
 -- A region that passes a test, and agrees with S on the first n places.
 pub record Tested (n : ℕ) (p : Region → Bool) (S : Region) : Type 0 where

@@ -1,8 +1,8 @@
 -- The least of the narrowest regions of a kind, by a test of all regions.
-use Rattle.std.proofs.Common.{◌≡◌, ℕ, zero, suc, ◌<◌, Bool, true, false, cond, not, ◌&&◌, ℤ, neg_ℤ, ◌≤ℤ◌, Decides, sym, refl, ◌∙◌, ap₂, arith}
+use Rattle.std.proofs.Common.{◌≡◌, ℕ, zero, suc, ◌<◌, Bool, true, cond, not, ◌&&◌, ℤ, neg_ℤ, ◌≤ℤ◌, Decides, sym, refl, ◌∙◌, ap₂, arith}
 use lib.Signed.{le_z}
 use Rattle.std.proofs.lemmas.Int.{ints}
-use Rattle.std.proofs.lemmas.Bool.{and_parts, and_from, false≢true, not-true, not_from_false}
+use Rattle.std.proofs.lemmas.Bool.{and_parts}
 use Rattle.std.proofs.lemmas.Bool.Decides.{Decides-below_and}
 use Rattle.board.specs.Board.{Board}
 use Rattle.flow.proofs.Sums.{width_same}
@@ -15,8 +15,7 @@ abbrev pub implies : Bool → Bool → Bool
 implies a c = cond a c true
 
 decides_implies : (a c : Bool) → Decides (implies a c) (a ≡ true → c ≡ true)
-decides_implies true c = ((λ h _. h), (λ f. f refl))
-decides_implies false c = ((λ h e. absurd (false≢true e)), (λ f. refl))
+decides_implies a c = ((λ h e. grind arith), (λ f. grind arith))
 
 pub implied : (a c : Bool) → implies a c ≡ true → a ≡ true → c ≡ true
 implied a c = (decides_implies a c).0
@@ -109,22 +108,21 @@ least_tested k b R w net h =
         )
 
 pub separates_test : (b : Board) (S : Region) → Separates b S → is separating b S ≡ true
-separates_test b S s = and_from (S b.shape.home) _ s.home (not_from_false (S b.shape.port) s.port)
+separates_test b S s = grind arith
 
 pub narrowest : (b : Board) (R : Region) (d : ℤ) → Network b → is_least separating b R d ≡ true → Narrowest b R d
 narrowest b R d net h =
     let t = least_tested separating b R d net h in
-    let k = and_parts (R b.shape.home) _ t.kind in
+    let k = t.kind in
     record {
-      separates = record { home = k.0; port = not-true (R b.shape.port) k.1 };
+      separates = record { home = grind arith; port = grind arith };
       wide = t.wide;
       least = λ S s. t.least S (separates_test b S s);
       inside = λ S s. t.inside S (separates_test b S s);
     }
 
 decides_together : (s t : Bool) → Decides (together s t) (s ≡ t)
-decides_together true t = (sym, sym)
-decides_together false t = ((λ h. sym (not-true t h)), (λ e. not_from_false t (sym e)))
+decides_together s t = ((λ h. grind arith), (λ e. grind arith))
 
 pub most_overpromised : (b : Board) (R : Region) (x : ℤ) → Network b → is_least together b R (neg_ℤ x) ≡ true → MostOverpromised b R x
 most_overpromised b R x net h =

@@ -1,18 +1,20 @@
 -- The boards of the worked examples.
---   route       a route by its four numbers           board      a board by its numbers and its routes
---   region      the region of the places listed
---   crossing    four places and five routes           carrying   shares that deliver 6 on it
---   first_two   the places 0 and 1                    shifted    shares that differ from these outside the two
---   turned      the same board with two routes in each other's place
---   two_way     two places and a route that cubes may go both ways
---   promised    three places, of which the middle one is promised more than it can pass on
---   stuck       shares on it that leave 1 too many in the middle
---   eased       the same board with a floor that is lower by one
---   drained     three places, of which the middle one has to pass on more than can come to it
---   lacking     shares on it that leave 1 too few in the middle
---   backward    two places and a route from port to home
---   chain       three places in a row, joined by routes with equal marks
---   empty       four places and no routes
+--   route         a route by its four numbers           board      a board by its numbers and its routes
+--   region        the region of the places listed
+--   four_places   four places and five routes, of which the first and the last are given
+--   outward       a route from home on those places     across     one between the two inner places
+--   crossing      such a board                          carrying   shares that deliver 6 on it
+--   first_two     the places 0 and 1                    shifted    shares that differ from these outside the two
+--   turned        the same board with two routes in each other's place
+--   two_way       two places and a route that cubes may go both ways
+--   promised      three places, of which the middle one is promised more than it can pass on
+--   stuck         shares on it that leave 1 too many in the middle
+--   eased         the same board with a floor that is lower by one
+--   drained       three places, of which the middle one has to pass on more than can come to it
+--   lacking       shares on it that leave 1 too few in the middle
+--   backward      two places and a route from port to home
+--   chain         three places in a row, joined by routes with equal marks
+--   empty         four places and no routes
 use Rattle.std.specs.Prelude.{ℕ, false, ◌||◌, List, [], ◌∷◌, ℤ, pos, negsuc, ◌==◌}
 use Rattle.board.specs.Board.{Board}
 use Rattle.board.specs.declared.route.Route.{Route}
@@ -32,16 +34,22 @@ abbrev pub region : List ℕ → Region
 region [] v = false
 region (u ∷ us) v = v == u || region us v
 
+-- Four places, with home 0 and port 3, and five routes, of which the first and the last are given.
+abbrev pub four_places : Route → Route → Board
+four_places first last =
+    board 4 0 3 (first ∷ route 0 2 (pos 1) (pos 2) ∷ route 1 3 (pos 0) (pos 3) ∷ route 2 3 (pos 0) (pos 9) ∷ last ∷ [])
+
+-- A route from home to another place of the four.
+abbrev pub outward : Route
+outward = route 0 1 (pos 0) (pos 5)
+
+-- A route between the two places that are neither home nor port, with a floor below 0.
+abbrev pub across : Route
+across = route 2 1 (negsuc 0) (pos 1)
+
 -- Four places and five routes, one of them with a floor below 0.
 abbrev pub crossing : Board
-crossing =
-    board 4 0 3
-    (route 0 1 (pos 0) (pos 5)
-    ∷ route 0 2 (pos 1) (pos 2)
-    ∷ route 1 3 (pos 0) (pos 3)
-    ∷ route 2 3 (pos 0) (pos 9)
-    ∷ route 2 1 (negsuc 0) (pos 1)
-    ∷ [])
+crossing = four_places outward across
 
 -- Shares that deliver 6 on it; one goes against its route.
 abbrev pub carrying : List ℤ
@@ -57,14 +65,7 @@ shifted = pos 4 ∷ pos 2 ∷ pos 3 ∷ pos 5 ∷ negsuc 0 ∷ []
 
 -- The same board with the first and the last route in each other's place.
 abbrev pub turned : Board
-turned =
-    board 4 0 3
-    (route 2 1 (negsuc 0) (pos 1)
-    ∷ route 0 2 (pos 1) (pos 2)
-    ∷ route 1 3 (pos 0) (pos 3)
-    ∷ route 2 3 (pos 0) (pos 9)
-    ∷ route 0 1 (pos 0) (pos 5)
-    ∷ [])
+turned = four_places across outward
 
 -- Two places and a route from home to port that carries 7 along it or 3 against it.
 abbrev pub two_way : Board

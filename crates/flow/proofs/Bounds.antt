@@ -1,8 +1,7 @@
 -- Nets sum to what goes through a region, and what that bounds.
-use Rattle.std.proofs.Common.{◌≡◌, ℕ, ◌<◌, Bool, true, false, cond, not, ◌&&◌, eqb, List, [], ◌∷◌, ℤ, pos, ◌+ℤ◌, ◌-ℤ◌, neg_ℤ, ◌≤ℤ◌, refl, ap, ◌∙◌, ap₂, arith}
+use Rattle.std.proofs.Common.{◌≡◌, ℕ, ◌<◌, Bool, false, cond, not, ◌&&◌, eqb, List, [], ◌∷◌, ℤ, pos, ◌+ℤ◌, ◌-ℤ◌, neg_ℤ, ◌≤ℤ◌, refl, ap, ◌∙◌, ap₂, arith}
 use Rattle.std.proofs.ByRecursion.{All-weaker}
 use Rattle.std.proofs.lemmas.Int.{ints}
-use Rattle.std.proofs.lemmas.Bool.{eqb-false, true≢false, false≢true}
 use Rattle.std.proofs.lemmas.Bool.Decides.{nat_tests}
 use Rattle.std.specs.List.{AllByRecursion}
 use Rattle.board.specs.Board.{Board}
@@ -32,20 +31,16 @@ sum_by e n (r ∷ rs) (x ∷ xs) R js =
     ∙ ap₂ ◌+ℤ◌ (sum_in_at n (e r) R x js.0) (sum_by e n rs xs R js.1)
 
 -- A route with both ends in the region, or none, counts for nothing.
+
+crosses : (s t : Bool) (x : ℤ) → cond s x (pos 0) -ℤ cond t x (pos 0) ≡ cond (s && not t) x (pos 0) -ℤ cond (not s && t) x (pos 0)
+crosses s t x = grind (arith, ints)
+
 crossing : (R : Region) (rs : List Route) (xs : List ℤ)
     → carried (λ r. R r.start) rs xs -ℤ carried (λ r. R r.end) rs xs ≡ through rs xs R
 crossing R [] xs = refl
 crossing R (r ∷ rs) [] = refl
-crossing R (r ∷ rs) (x ∷ xs) = by (R r.start) (R r.end) (crossing R rs xs)
-  where
-    by : (s t : Bool)
-        → carried (λ r. R r.start) rs xs -ℤ carried (λ r. R r.end) rs xs ≡ through rs xs R
-        → (cond s x (pos 0) +ℤ carried (λ r. R r.start) rs xs) -ℤ (cond t x (pos 0) +ℤ carried (λ r. R r.end) rs xs)
-        ≡ (cond (s && not t) x (pos 0) +ℤ carried (leaves R) rs xs) -ℤ (cond (not s && t) x (pos 0) +ℤ carried (enters R) rs xs)
-    by true true e = omega (arith, ints)
-    by true false e = omega (arith, ints)
-    by false true e = omega (arith, ints)
-    by false false e = omega (arith, ints)
+crossing R (r ∷ rs) (x ∷ xs) =
+    let e = crossing R rs xs in let here = crosses (R r.start) (R r.end) x in omega (arith, ints)
 
 pub nets_sum : NetsSum
 nets_sum n rs xs R js =
@@ -91,16 +86,6 @@ ends_apart b R f w =
     ∙ ap (λ (y : ℤ). y +ℤ sum_in n R (innerly b f))
     (sum_in_plus n R at_home at_port ∙ ap₂ ◌+ℤ◌ (sum_in_at n h R (f h) w.home) (sum_in_at n p R (f p) w.port))
 
--- A number that is 0 at every inner place.
-even : (h p v : ℕ) (x : ℤ) → ((v ≡ h → ⊥) → (v ≡ p → ⊥) → x ≡ pos 0) → cond (not (eqb v h) && not (eqb v p)) x (pos 0) ≡ pos 0
-even h p v x k = by (eqb v h) (eqb v p) (eqb-false v h) (eqb-false v p)
-  where
-    by : (s t : Bool) → (s ≡ false → v ≡ h → ⊥) → (t ≡ false → v ≡ p → ⊥) → cond (not s && not t) x (pos 0) ≡ pos 0
-    by true true a b = refl
-    by true false a b = refl
-    by false true a b = refl
-    by false false a b = k (a refl) (b refl)
-
 -- In a flow the inner places count for nothing.
 pub flow_through : (b : Board) (xs : List ℤ) (R : Region) → Network b → Flow b xs
     → through b.routes xs R
@@ -109,7 +94,7 @@ flow_through b xs R w fl =
     let n = b.shape.places in
     let f = net b.routes xs in
     let zero_inside : sum_in n R (innerly b f) ≡ pos 0 =
-    sum_in_same n R (innerly b f) (λ v. pos 0) (λ v l _. even b.shape.home b.shape.port v (f v) (fl.balanced v l)) ∙ sum_in_zero n R
+    sum_in_same n R (innerly b f) (λ v. pos 0) (λ v l _. let k = fl.balanced v l in grind (arith, nat_tests)) ∙ sum_in_zero n R
     in
     let parts = ends_apart b R f w in
     let whole = nets_sum n b.routes xs R w.routes in
@@ -132,23 +117,19 @@ arrives b xs d w = (
 
 -- Shares within the marks carry no more than the ceilings, and no less than the floors.
 
-at_most : (t : Bool) (x y a c : ℤ) → x ≤ℤ y → a ≤ℤ c → (cond t x (pos 0) +ℤ a) ≤ℤ (cond t y (pos 0) +ℤ c)
-at_most true x y a c h k = omega (arith, ints)
-at_most false x y a c h k = omega (arith, ints)
-
 pub carried_at_most : (p : Route → Bool) (rs : List Route) (xs : List ℤ) → Within rs xs → carried p rs xs ≤ℤ ceilings p rs
 carried_at_most p [] [] h = omega (arith, ints)
 carried_at_most p [] (x ∷ xs) h = absurd h
 carried_at_most p (r ∷ rs) [] h = absurd h
 carried_at_most p (r ∷ rs) (x ∷ xs) h =
-    at_most (p r) x r.ceiling (carried p rs xs) (ceilings p rs) h.1 (carried_at_most p rs xs h.2)
+    let e = carried_at_most p rs xs h.2 in grind (arith, ints)
 
 pub carried_at_least : (p : Route → Bool) (rs : List Route) (xs : List ℤ) → Within rs xs → floors p rs ≤ℤ carried p rs xs
 carried_at_least p [] [] h = omega (arith, ints)
 carried_at_least p [] (x ∷ xs) h = absurd h
 carried_at_least p (r ∷ rs) [] h = absurd h
 carried_at_least p (r ∷ rs) (x ∷ xs) h =
-    at_most (p r) r.floor x (floors p rs) (carried p rs xs) h.0 (carried_at_least p rs xs h.2)
+    let e = carried_at_least p rs xs h.2 in grind (arith, ints)
 
 -- No more goes through a region than its ceilings leaving minus its floors entering.
 pub through_at_most : (rs : List Route) (xs : List ℤ) (R : Region) → Within rs xs → through rs xs R ≤ℤ width rs R
@@ -164,27 +145,22 @@ delivery_through b xs R w fl s =
     let e = flow_through b xs R w fl in
     let x = delivery b xs in
     let y = net b.routes xs b.shape.port in
-    let k : cond (R b.shape.home) x (pos 0) +ℤ cond (R b.shape.port) y (pos 0) ≡ x +ℤ pos 0 =
-    ap₂ (λ (t u : Bool). cond t x (pos 0) +ℤ cond u y (pos 0)) s.home s.port
-    in
-    omega (arith, ints)
+    let k = s.home in
+    let l = s.port in
+    grind (arith, ints)
+
+-- Of two numbers either both count or neither does.
+pub both_ends : (x y z : ℤ) (s t : Bool) → s ≡ t → x +ℤ y ≡ z → cond s x (pos 0) +ℤ cond t y (pos 0) ≡ cond s z (pos 0)
+both_ends x y z s t e k = grind (arith, ints)
 
 -- What a flow sends through a region with both ends or neither is nothing.
 pub nothing_through : (b : Board) (xs : List ℤ) (R : Region) → Network b → Flow b xs → Together b R
     → through b.routes xs R ≡ pos 0
 nothing_through b xs R w fl s =
-    let e = flow_through b xs R w fl in
     let c = ends_cancel b xs w fl in
-    both (R b.shape.home) (R b.shape.port) s e c
-  where
-    both : (t u : Bool) → t ≡ u
-        → through b.routes xs R ≡ cond t (delivery b xs) (pos 0) +ℤ cond u (net b.routes xs b.shape.port) (pos 0)
-        → net b.routes xs b.shape.port ≡ neg_ℤ (delivery b xs)
-        → through b.routes xs R ≡ pos 0
-    both true true s e c = omega (arith, ints)
-    both true false s e c = absurd (true≢false s)
-    both false true s e c = absurd (false≢true s)
-    both false false s e c = omega (arith, ints)
+    flow_through b xs R w fl
+    ∙ both_ends (delivery b xs) (net b.routes xs b.shape.port) (pos 0) (R b.shape.home) (R b.shape.port) s (omega (arith, ints))
+    ∙ grind arith
 
 pub width_bounds : WidthBounds
 width_bounds b xs R w fl s =

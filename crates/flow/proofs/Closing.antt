@@ -1,7 +1,6 @@
 -- A region is closed exactly where as much goes through it as its marks allow.
-use Rattle.std.proofs.Common.{◌≡◌, Bool, true, false, cond, not, ◌&&◌, ◌⊎◌, List, [], ◌∷◌, ℤ, pos, ◌+ℤ◌, ◌-ℤ◌, ◌≤ℤ◌, ◌<ℤ◌, sym, refl, ap, ◌∙◌, ap₂, inl, inr, arith}
-use Rattle.std.proofs.lemmas.Int.{ints, by_lt_z}
-use Rattle.std.proofs.lemmas.Bool.{false≢true}
+use Rattle.std.proofs.Common.{◌≡◌, Bool, true, cond, ◌⊎◌, List, [], ◌∷◌, ℤ, pos, ◌+ℤ◌, ◌-ℤ◌, ◌≤ℤ◌, ◌<ℤ◌, sym, refl, ◌∙◌, ap₂, inl, inr, arith}
+use Rattle.std.proofs.lemmas.Int.{ints}
 use Rattle.board.specs.declared.route.Route.{Route}
 use Rattle.flow.proofs.Bounds.{carried_at_most, carried_at_least, nets_sum}
 use Rattle.flow.proofs.Sums.{sum_in_same}
@@ -25,10 +24,6 @@ shut_first R r rs x xs c =
 shut_later : (R : Region) (r : Route) (rs : List Route) (x : ℤ) (xs : List ℤ) → Closed (r ∷ rs) (x ∷ xs) R → Closed rs xs R
 shut_later R r rs x xs c = λ u v s. c u v (inr s)
 
--- A number that is not below one that it does not exceed equals it.
-reached : (x y : ℤ) → x ≤ℤ y → (x <ℤ y → ⊥) → x ≡ y
-reached x y l k = by_lt_z x y (λ h. absurd (k h)) (λ h. omega (arith, ints))
-
 -- A sum of shares is a sum of marks, where the mark is the share of each route that counts.
 full_by : (R : Region) (p : Route → Bool) (m : Route → ℤ)
     → ((r : Route) (x : ℤ) → r.floor ≤ℤ x → x ≤ℤ r.ceiling → Shut R r x → cond (p r) x (pos 0) ≡ cond (p r) (m r) (pos 0))
@@ -40,45 +35,16 @@ full_by R p m one (r ∷ rs) (x ∷ xs) h c =
     ap₂ ◌+ℤ◌ (one r x h.0 h.1 (shut_first R r rs x xs c)) (full_by R p m one rs xs h.2 (shut_later R r rs x xs c))
 
 -- A route that leaves a closed region is at its ceiling, one that enters it at its floor.
-
-leaving_full : (s t : Bool) (x y : ℤ) → x ≤ℤ y → (s ≡ true → x <ℤ y → t ≡ true) → cond (s && not t) x (pos 0) ≡ cond (s && not t) y (pos 0)
-leaving_full true true x y l k = refl
-leaving_full true false x y l k = reached x y l (λ h. false≢true (k refl h))
-leaving_full false true x y l k = refl
-leaving_full false false x y l k = refl
-
-entering_full : (s t : Bool) (x y : ℤ) → y ≤ℤ x → (t ≡ true → y <ℤ x → s ≡ true) → cond (not s && t) x (pos 0) ≡ cond (not s && t) y (pos 0)
-entering_full true true x y l k = refl
-entering_full true false x y l k = refl
-entering_full false true x y l k = sym (reached y x l (λ h. false≢true (k refl h)))
-entering_full false false x y l k = refl
-
 pub closed_is_full : ClosedIsFull
 closed_is_full rs xs R h c =
     ap₂ ◌-ℤ◌
-    (full_by R (leaves R) (λ r. r.ceiling) (λ r x _ high k. leaving_full (R r.start) (R r.end) x r.ceiling high k.along) rs xs h c)
-    (full_by R (enters R) (λ r. r.floor) (λ r x low _ k. entering_full (R r.start) (R r.end) x r.floor low k.against) rs xs h c)
+    (full_by R (leaves R) (λ r. r.ceiling) (λ r x low high k. grind (arith, ints)) rs xs h c)
+    (full_by R (enters R) (λ r. r.floor) (λ r x low high k. grind (arith, ints)) rs xs h c)
 
 -- Where a sum reaches its bound, each part does.
 parts_reached : (t : Bool) (x y a c : ℤ) → x ≤ℤ y → a ≤ℤ c → cond t x (pos 0) +ℤ a ≡ cond t y (pos 0) +ℤ c
     → (cond t x (pos 0) ≡ cond t y (pos 0)) × (a ≡ c)
-parts_reached true x y a c h k e = (omega (arith, ints), omega (arith, ints))
-parts_reached false x y a c h k e = (refl, omega (arith, ints))
-
--- A route on which a step is left neither leaves the region, if the sum of the ceilings is reached, nor enters it, if
--- that of the floors is.
-
-no_way_out : (s t : Bool) (x y : ℤ) → cond (s && not t) x (pos 0) ≡ cond (s && not t) y (pos 0) → x <ℤ y → s ≡ true → t ≡ true
-no_way_out true true x y e l i = refl
-no_way_out true false x y e l i = absurd (omega (arith, ints))
-no_way_out false true x y e l i = refl
-no_way_out false false x y e l i = i
-
-no_way_in : (s t : Bool) (x y : ℤ) → cond (not s && t) x (pos 0) ≡ cond (not s && t) y (pos 0) → x <ℤ y → t ≡ true → s ≡ true
-no_way_in true true x y e l i = refl
-no_way_in true false x y e l i = refl
-no_way_in false true x y e l i = absurd (omega (arith, ints))
-no_way_in false false x y e l i = i
+parts_reached t x y a c h k e = (grind (arith, ints), grind (arith, ints))
 
 stays : (R : Region) (rs : List Route) (xs : List ℤ) → Within rs xs
     → carried (leaves R) rs xs ≡ ceilings (leaves R) rs → floors (enters R) rs ≡ carried (enters R) rs xs
@@ -93,10 +59,8 @@ stays R (r ∷ rs) (x ∷ xs) h e f u v s i =
     step : cond (leaves R r) x (pos 0) ≡ cond (leaves R r) r.ceiling (pos 0)
         → cond (enters R r) r.floor (pos 0) ≡ cond (enters R r) x (pos 0)
         → StepBy r x u v ⊎ Step rs xs u v → (Step rs xs u v → R v ≡ true) → R v ≡ true
-    step o n (inl (Along a b l)) later =
-        sym (ap R b) ∙ no_way_out (R r.start) (R r.end) x r.ceiling o l (ap R a ∙ i)
-    step o n (inl (Against a b l)) later =
-        sym (ap R a) ∙ no_way_in (R r.start) (R r.end) r.floor x n l (ap R b ∙ i)
+    step o n (inl (Along a b l)) later = grind (arith, ints)
+    step o n (inl (Against a b l)) later = grind (arith, ints)
     step o n (inr k) later = later k
 
 pub full_is_closed : FullIsClosed

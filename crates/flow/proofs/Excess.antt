@@ -1,11 +1,11 @@
 -- Which excess and which region are right, where shares leave places out of balance.
-use Rattle.std.proofs.Common.{◌≡◌, ℕ, ◌<◌, Bool, true, false, cond, not, ◌&&◌, ◌||◌, eqb, List, ℤ, pos, ◌+ℤ◌, ◌-ℤ◌, neg_ℤ, ◌≤ℤ◌, ◌<ℤ◌, sym, refl, ap, ◌∙◌, ap₂, ⊎_elim, arith}
+use Rattle.std.proofs.Common.{◌≡◌, ℕ, ◌<◌, Bool, true, false, cond, ◌&&◌, ◌||◌, List, ℤ, pos, ◌+ℤ◌, ◌-ℤ◌, neg_ℤ, ◌≤ℤ◌, ◌<ℤ◌, sym, refl, ap, ◌∙◌, ap₂, ⊎_elim, arith}
 use lib.Signed.{lt_z}
 use Rattle.std.proofs.lemmas.Int.{ints, clamps}
-use Rattle.std.proofs.lemmas.Bool.{cond-true, cases_Bool, or_cases, or_left, or_right, and_parts, and_from, both_ways, eqb-true, true≢false, false≢true}
+use Rattle.std.proofs.lemmas.Bool.{cond-true, cases_Bool, or_cases, or_left, or_right, and_parts, and_from, both_ways}
 use Rattle.std.proofs.lemmas.Bool.Decides.{nat_tests}
 use Rattle.board.specs.Board.{Board}
-use Rattle.flow.proofs.Bounds.{nets_sum, nets_cancel, innerly, ends_apart, through_at_most, none_overpromised}
+use Rattle.flow.proofs.Bounds.{nets_sum, nets_cancel, innerly, ends_apart, through_at_most, both_ends, none_overpromised}
 use Rattle.flow.proofs.Closing.{closed_is_full, full_is_closed}
 use Rattle.flow.proofs.Sums.{sum_in_minus, sum_in_same, sum_in_zero, sum_in_least, sum_in_most, sum_in_whole, sum_in_has, sum_in_even}
 use Rattle.flow.specs.Flow.{Network, net, Within}
@@ -17,22 +17,13 @@ use Rattle.flow.specs.Residual.{Closed}
 
 -- What is left at an inner place is its shortage or, with the sign turned, its surplus.
 two_kinds : (i : Bool) (z : ℤ) → cond i z (pos 0) ≡ cond (i && lt_z (pos 0) z) z (pos 0) -ℤ cond (i && lt_z z (pos 0)) (neg_ℤ z) (pos 0)
-two_kinds true z = grind (arith, ints)
-two_kinds false z = refl
+two_kinds i z = grind (arith, ints)
 
 surplus_least : (b : Board) (xs : List ℤ) (v : ℕ) → pos 0 ≤ℤ surplus_at b xs v
-surplus_least b xs v = by (inner b v) (net b.routes xs v)
-  where
-    by : (i : Bool) (z : ℤ) → pos 0 ≤ℤ cond (i && lt_z z (pos 0)) (neg_ℤ z) (pos 0)
-    by true z = grind (arith, ints)
-    by false z = omega (arith, ints)
+surplus_least b xs v = grind (arith, ints)
 
 shortage_least : (b : Board) (xs : List ℤ) (v : ℕ) → pos 0 ≤ℤ shortage_at b xs v
-shortage_least b xs v = by (inner b v) (net b.routes xs v)
-  where
-    by : (i : Bool) (z : ℤ) → pos 0 ≤ℤ cond (i && lt_z (pos 0) z) z (pos 0)
-    by true z = grind (arith, ints)
-    by false z = omega (arith, ints)
+shortage_least b xs v = grind (arith, ints)
 
 -- The surplus and the shortage that a region holds.
 
@@ -70,13 +61,7 @@ together_through : (b : Board) (xs : List ℤ) (R : Region) → Network b → To
     → through b.routes xs R ≡ cond (R b.shape.home) (surplus b xs -ℤ shortage b xs) (pos 0) +ℤ (held_short b xs R -ℤ held_over b xs R)
 together_through b xs R w t =
     left_through b xs R w
-    ∙ ap (λ (z : ℤ). z +ℤ (held_short b xs R -ℤ held_over b xs R)) (both _ _ _ (R b.shape.home) (R b.shape.port) t (ends_left b xs w))
-  where
-    both : (x y z : ℤ) (s t : Bool) → s ≡ t → x +ℤ y ≡ z → cond s x (pos 0) +ℤ cond t y (pos 0) ≡ cond s z (pos 0)
-    both x y z true true e k = k
-    both x y z true false e k = absurd (true≢false e)
-    both x y z false true e k = absurd (false≢true e)
-    both x y z false false e k = refl
+    ∙ ap (λ (z : ℤ). z +ℤ (held_short b xs R -ℤ held_over b xs R)) (both_ends _ _ _ (R b.shape.home) (R b.shape.port) t (ends_left b xs w))
 
 -- What is known of a region with both home and port or with neither: by how much it is overpromised at most, and what
 -- it holds where it reaches that.
@@ -88,49 +73,32 @@ record Reached (b : Board) (xs : List ℤ) (S : Region) : Type 0 where
 at_most : (b : Board) (xs : List ℤ) (S : Region) → Network b → Within b.routes xs → Together b S
     → (overpromise b.routes S ≤ℤ excess b xs) × (overpromise b.routes S ≡ excess b xs → Reached b xs S)
 at_most b xs S w h t =
-    by (S b.shape.home) refl (together_through b xs S w t)
+    by (S b.shape.home) refl (together_through b xs S w t) (through_at_most b.routes xs S h)
+    (sum_in_least b.shape.places S (shortage_at b xs) (shortage_least b xs))
+    (sum_in_most b.shape.places S (surplus_at b xs) (surplus_least b xs))
   where
-    some : pos 0 ≤ℤ held_short b xs S
-    some = sum_in_least b.shape.places S (shortage_at b xs) (shortage_least b xs)
-
-    part : held_over b xs S ≤ℤ surplus b xs
-    part = sum_in_most b.shape.places S (surplus_at b xs) (surplus_least b xs)
-
-    bound : through b.routes xs S ≤ℤ width b.routes S
-    bound = through_at_most b.routes xs S h
-
     by : (s : Bool) → S b.shape.home ≡ s
         → through b.routes xs S ≡ cond s (surplus b xs -ℤ shortage b xs) (pos 0) +ℤ (held_short b xs S -ℤ held_over b xs S)
+        → through b.routes xs S ≤ℤ width b.routes S
+        → pos 0 ≤ℤ held_short b xs S
+        → held_over b xs S ≤ℤ surplus b xs
         → (overpromise b.routes S ≤ℤ excess b xs) × (overpromise b.routes S ≡ excess b xs → Reached b xs S)
-    by true i e =
-        let a = some in
-        let c = part in
-        let d = bound in (
-          omega (arith, ints, clamps),
-          λ k. record { full = omega (arith, ints, clamps); over = omega (arith, ints, clamps); home = λ _. i },
-        )
-    by false i e =
-        let a = some in
-        let c = part in
-        let d = bound in (
-          omega (arith, ints, clamps),
-          λ k. record { full = omega (arith, ints, clamps); over = omega (arith, ints, clamps); home = λ o. absurd (omega (arith, ints, clamps)) },
-        )
+    by true i e bound some part = (
+      omega (arith, ints, clamps),
+      λ k. record { full = omega (arith, ints, clamps); over = omega (arith, ints, clamps); home = λ _. i },
+    )
+    by false i e bound some part = (
+      omega (arith, ints, clamps),
+      λ k. record { full = omega (arith, ints, clamps); over = omega (arith, ints, clamps); home = λ o. absurd (omega (arith, ints, clamps)) },
+    )
 
 -- The places out of balance, and the ends, by their tests.
 
 over_surplus : (i : Bool) (z : ℤ) → (i && lt_z z (pos 0)) ≡ true → pos 0 <ℤ cond (i && lt_z z (pos 0)) (neg_ℤ z) (pos 0)
-over_surplus true z e = grind (arith, ints)
-over_surplus false z e = absurd (false≢true e)
+over_surplus i z e = grind (arith, ints)
 
 at_ends : (b : Board) (S : Region) (v : ℕ) → Together b S → ends b v ≡ true → S b.shape.home ≡ true → S v ≡ true
-at_ends b S v t e h = by (eqb v b.shape.home) (eqb v b.shape.port) refl refl e
-  where
-    by : (s u : Bool) → eqb v b.shape.home ≡ s → eqb v b.shape.port ≡ u → not (not s && not u) ≡ true → S v ≡ true
-    by true true i j e = ap S (eqb-true v b.shape.home i) ∙ h
-    by true false i j e = ap S (eqb-true v b.shape.home i) ∙ h
-    by false true i j e = ap S (eqb-true v b.shape.port j) ∙ sym t ∙ h
-    by false false i j e = absurd (false≢true e)
+at_ends b S v t e h = grind (arith, nat_tests)
 
 -- What an origin is.
 by_origin : {P : Type 0} (b : Board) (xs : List ℤ) (v : ℕ) → (over b xs v ≡ true → P) → (ends_over b xs ≡ true → ends b v ≡ true → P)
@@ -169,11 +137,7 @@ ours_below b xs U R w k h p r e =
     lies = r.least U k.closed (λ v l. by_origin b xs v (k.has v l) (λ o _. absurd (both_ways (ends_over b xs) e o)))
 
     out : (v : ℕ) → v < b.shape.places → U v ≡ false → R v ≡ false
-    out v l i = not_both (R v) (lies v l) i
-      where
-        not_both : (s : Bool) → (s ≡ true → U v ≡ true) → U v ≡ false → s ≡ false
-        not_both true f i = absurd (both_ways (U v) i (f refl))
-        not_both false f i = refl
+    out v l i = let f = lies v l in grind arith
 
 -- Where the shortage is greater: it has home and port, and lies inside the union of the two regions that block.
 ours_above : (b : Board) (xs : List ℤ) (U V R : Region) → Network b → Blocks b xs (over b xs) U → Blocks b xs (ends b) V
@@ -208,8 +172,7 @@ ours_over b xs R w h r o =
     none = sum_in_same n R (shortage_at b xs) (λ v. pos 0) o.short ∙ sum_in_zero n R
 
     left_out : (v : ℕ) (t : Bool) → (t ≡ true → R v ≡ true) → R v ≡ false → cond t (neg_ℤ (net b.routes xs v)) (pos 0) ≡ pos 0
-    left_out v true f i = absurd (both_ways (R v) i (f refl))
-    left_out v false f i = refl
+    left_out v t f i = grind arith
 
     whole : held_over b xs R ≡ surplus b xs
     whole =

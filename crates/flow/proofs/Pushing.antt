@@ -1,7 +1,8 @@
 -- What raising one share does to the nets.
-use Rattle.std.proofs.Common.{◌≡◌, ℕ, zero, suc, ◌<◌, Bool, true, false, cond, List, [], ◌∷◌, length, get_or, ℤ, pos, ◌+ℤ◌, arith}
+use Rattle.std.proofs.Common.{◌≡◌, ℕ, zero, suc, ◌<◌, Bool, cond, List, [], ◌∷◌, length, get_or, ℤ, pos, ◌+ℤ◌, arith}
 use Rattle.std.proofs.lemmas.Int.{ints}
 use Rattle.board.specs.declared.route.Route.{Route}
+use Rattle.flow.proofs.Sums.{counted_plus}
 use Rattle.flow.specs.Flow.{carried, starts_at, ends_at, raised}
 use Rattle.flow.specs.Laws.{Pushes}
 
@@ -9,11 +10,7 @@ carried_raised : (p : Route → Bool) (rs : List Route) (xs : List ℤ) (k : ℕ
     → carried p rs (raised xs k a) ≡ carried p rs xs +ℤ cond (p (get_or rs k d)) a (pos 0)
 carried_raised p [] xs k a d l e = absurd (omega arith)
 carried_raised p (r ∷ rs) [] k a d l e = absurd (omega arith)
-carried_raised p (r ∷ rs) (x ∷ xs) zero a d l e = by (p r)
-  where
-    by : (t : Bool) → cond t (x +ℤ a) (pos 0) +ℤ carried p rs xs ≡ (cond t x (pos 0) +ℤ carried p rs xs) +ℤ cond t a (pos 0)
-    by true = omega (arith, ints)
-    by false = omega (arith, ints)
+carried_raised p (r ∷ rs) (x ∷ xs) zero a d l e = let here = counted_plus (p r) x a in omega (arith, ints)
 carried_raised p (r ∷ rs) (x ∷ xs) (suc k) a d l e =
     let f = carried_raised p rs xs k a d (omega arith) (omega arith) in omega (arith, ints)
 

@@ -1,5 +1,5 @@
 -- A flow that meets a region's width is right, and a board has one right answer.
-use Rattle.std.proofs.Common.{◌≡◌, Bool, true, false, List, ℤ, pos, ◌<ℤ◌, sym, refl, ◌∙◌, subst, arith}
+use Rattle.std.proofs.Common.{◌≡◌, List, ℤ, pos, ◌<ℤ◌, sym, refl, ◌∙◌, subst, arith}
 use Rattle.std.proofs.lemmas.Int.{ints}
 use Rattle.std.proofs.lemmas.List.Sorted.{IsPermutation-sym}
 use Rattle.std.proofs.ByRecursion.{all_shuffled}
@@ -37,13 +37,7 @@ meeting_is_right b xs R w fl s e least = (meeting_is_greatest b xs R w fl s e, n
 
 -- Regions that lie inside each other are the same.
 same_region : (b : Board) (R S : Region) → Inside b R S → Inside b S R → SameRegion b R S
-same_region b R S i j v l = by (R v) (S v) (i v l) (j v l)
-  where
-    by : (s t : Bool) → (s ≡ true → t ≡ true) → (t ≡ true → s ≡ true) → s ≡ t
-    by true true f g = refl
-    by true false f g = sym (f refl)
-    by false true f g = g refl
-    by false false f g = refl
+same_region b R S i j v l = let f = i v l in let g = j v l in grind arith
 
 -- A board on which a flow exists is not one that is overpromised.
 not_both : (s : Shape) (rs ss : List Route) (xs : List ℤ) (x : ℤ) (S : Region) → Network (record { shape = s; routes = rs }) → IsPermutation rs ss

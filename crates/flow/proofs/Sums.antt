@@ -1,7 +1,8 @@
 -- Sums over routes and over places.
-use Rattle.std.proofs.Common.{◌≡◌, ℕ, zero, suc, ◌<◌, ◌≤◌, Bool, true, false, cond, not, ◌&&◌, eqb, List, [], ◌∷◌, ℤ, pos, ◌+ℤ◌, ◌-ℤ◌, ◌≤ℤ◌, ◌<ℤ◌, sym, refl, ap, ◌∙◌, subst, ap₂, ⊎_elim, arith}
+use Rattle.std.proofs.Common.{◌≡◌, ℕ, zero, suc, ◌<◌, ◌≤◌, Bool, true, false, cond, not, ◌&&◌, eqb, List, [], ◌∷◌, ℤ, pos, ◌+ℤ◌, ◌-ℤ◌, ◌≤ℤ◌, ◌<ℤ◌, refl, ap, ◌∙◌, ap₂, ⊎_elim, arith}
 use Rattle.std.proofs.lemmas.Int.{ints}
 use Rattle.std.proofs.lemmas.Bool.{eq-eqb, ne_eqb, cases_eq}
+use Rattle.std.proofs.lemmas.Bool.Decides.{nat_tests}
 use Rattle.std.proofs.ByRecursion.{All-weaker}
 use Rattle.std.specs.List.{AllByRecursion}
 use Rattle.board.specs.declared.route.Route.{Route}
@@ -9,28 +10,24 @@ use Rattle.flow.specs.Flow.{Joins}
 use Rattle.flow.specs.Regions.{Region, leaves, enters, marks, width}
 use Rattle.flow.specs.Imbalance.{everywhere, sum_in}
 
+-- What counts of a sum of two is what counts of each.
+pub counted_plus : (t : Bool) (x y : ℤ) → cond t (x +ℤ y) (pos 0) ≡ cond t x (pos 0) +ℤ cond t y (pos 0)
+counted_plus t x y = grind (arith, ints)
+
 -- Sums over the places of a region.
 
 pub sum_in_plus : (n : ℕ) (R : Region) (f g : ℕ → ℤ) → sum_in n R (λ v. f v +ℤ g v) ≡ sum_in n R f +ℤ sum_in n R g
 sum_in_plus zero R f g = refl
-sum_in_plus (suc n) R f g = by (R n) (sum_in_plus n R f g)
-  where
-    by : (t : Bool) → sum_in n R (λ v. f v +ℤ g v) ≡ sum_in n R f +ℤ sum_in n R g
-        → cond t (f n +ℤ g n) (pos 0) +ℤ sum_in n R (λ v. f v +ℤ g v)
-        ≡ (cond t (f n) (pos 0) +ℤ sum_in n R f) +ℤ (cond t (g n) (pos 0) +ℤ sum_in n R g)
-    by true e = omega (arith, ints)
-    by false e = omega (arith, ints)
+sum_in_plus (suc n) R f g =
+    let e = sum_in_plus n R f g in let here = counted_plus (R n) (f n) (g n) in omega (arith, ints)
 
 -- Functions that agree on the places of the region have the same sum.
 pub sum_in_same : (n : ℕ) (R : Region) (f g : ℕ → ℤ) → ((v : ℕ) → v < n → R v ≡ true → f v ≡ g v) → sum_in n R f ≡ sum_in n R g
 sum_in_same zero R f g h = refl
 sum_in_same (suc n) R f g h =
-    by (R n) (h n (omega arith)) (sum_in_same n R f g (λ v l. h v (omega arith)))
-  where
-    by : (t : Bool) → (t ≡ true → f n ≡ g n) → sum_in n R f ≡ sum_in n R g
-        → cond t (f n) (pos 0) +ℤ sum_in n R f ≡ cond t (g n) (pos 0) +ℤ sum_in n R g
-    by true h e = let k = h refl in omega (arith, ints)
-    by false h e = omega (arith, ints)
+    let here = h n (omega arith) in
+    let e = sum_in_same n R f g (λ v l. h v (omega arith)) in
+    grind (arith, ints)
 
 pub sum_in_minus : (n : ℕ) (R : Region) (f g : ℕ → ℤ) → sum_in n R (λ v. f v -ℤ g v) ≡ sum_in n R f -ℤ sum_in n R g
 sum_in_minus n R f g =
@@ -41,86 +38,47 @@ sum_in_minus n R f g =
 -- A sum of zeros is 0.
 pub sum_in_zero : (n : ℕ) (R : Region) → sum_in n R (λ v. pos 0) ≡ pos 0
 sum_in_zero zero R = refl
-sum_in_zero (suc n) R = by (R n) (sum_in_zero n R)
-  where
-    by : (t : Bool) → sum_in n R (λ v. pos 0) ≡ pos 0 → cond t (pos 0) (pos 0) +ℤ sum_in n R (λ v. pos 0) ≡ pos 0
-    by true e = omega (arith, ints)
-    by false e = omega (arith, ints)
+sum_in_zero (suc n) R = let e = sum_in_zero n R in grind (arith, ints)
 
--- A function that is 0 but at one place sums to its value there, if the place is in the region.
 -- A function that is 0 at every place below n sums to 0 there.
 sum_in_apart : (n h : ℕ) (R : Region) (a : ℤ) → n ≤ h → sum_in n R (λ v. cond (eqb h v) a (pos 0)) ≡ pos 0
 sum_in_apart n h R a l =
-    sum_in_same n R (λ v. cond (eqb h v) a (pos 0)) (λ v. pos 0) (λ v k _. ap (λ (t : Bool). cond t a (pos 0)) (ne_eqb h v (λ e. omega arith)))
-    ∙ sum_in_zero n R
+    sum_in_same n R (λ v. cond (eqb h v) a (pos 0)) (λ v. pos 0) (λ v k _. grind (arith, nat_tests)) ∙ sum_in_zero n R
 
+-- A function that is 0 but at one place sums to its value there, if the place is in the region.
 pub sum_in_at : (n h : ℕ) (R : Region) (a : ℤ) → h < n → sum_in n R (λ v. cond (eqb h v) a (pos 0)) ≡ cond (R h) a (pos 0)
 sum_in_at zero h R a l = absurd (omega arith)
-sum_in_at (suc n) h R a l = ⊎_elim here (λ k. below k (sum_in_at n h R a (omega arith))) (cases_eq h n)
-  where
-    rest : ℤ
-    rest = sum_in n R (λ v. cond (eqb h v) a (pos 0))
-
-    add-zero : (x y : ℤ) → y ≡ pos 0 → x +ℤ y ≡ x
-    add-zero x y e = omega (arith, ints)
-
-    zero-add : (t : Bool) (y z : ℤ) → y ≡ z → cond t (pos 0) (pos 0) +ℤ y ≡ z
-    zero-add true y z e = omega (arith, ints)
-    zero-add false y z e = omega (arith, ints)
-
-    here : h ≡ n → cond (R n) (cond (eqb h n) a (pos 0)) (pos 0) +ℤ rest ≡ cond (R h) a (pos 0)
-    here e =
-        ap₂ (λ (t s : Bool). cond t (cond s a (pos 0)) (pos 0) +ℤ rest) (ap R (sym e)) (eq-eqb h n e)
-        ∙ add-zero (cond (R h) a (pos 0)) rest (sum_in_apart n h R a (omega arith))
-
-    below : (h ≡ n → ⊥) → rest ≡ cond (R h) a (pos 0) → cond (R n) (cond (eqb h n) a (pos 0)) (pos 0) +ℤ rest ≡ cond (R h) a (pos 0)
-    below k e =
-        ap (λ (s : Bool). cond (R n) (cond s a (pos 0)) (pos 0) +ℤ rest) (ne_eqb h n k)
-        ∙ zero-add (R n) rest (cond (R h) a (pos 0)) e
+sum_in_at (suc n) h R a l =
+    ⊎_elim
+    (λ e. let z = sum_in_apart n h R a (omega arith) in let t = eq-eqb h n e in let r = ap R e in grind (arith, ints))
+    (λ k. let z = sum_in_at n h R a (omega arith) in let t = ne_eqb h n k in grind (arith, ints))
+    (cases_eq h n)
 
 -- Sums of numbers that are not negative.
 
 pub sum_in_least : (n : ℕ) (R : Region) (f : ℕ → ℤ) → ((v : ℕ) → pos 0 ≤ℤ f v) → pos 0 ≤ℤ sum_in n R f
 sum_in_least zero R f h = omega (arith, ints)
-sum_in_least (suc n) R f h = by (R n) (h n) (sum_in_least n R f h)
-  where
-    by : (t : Bool) → pos 0 ≤ℤ f n → pos 0 ≤ℤ sum_in n R f → pos 0 ≤ℤ (cond t (f n) (pos 0) +ℤ sum_in n R f)
-    by true a c = omega (arith, ints)
-    by false a c = omega (arith, ints)
+sum_in_least (suc n) R f h = let a = h n in let e = sum_in_least n R f h in grind (arith, ints)
 
 pub sum_in_most : (n : ℕ) (R : Region) (f : ℕ → ℤ) → ((v : ℕ) → pos 0 ≤ℤ f v) → sum_in n R f ≤ℤ sum_in n everywhere f
 sum_in_most zero R f h = omega (arith, ints)
-sum_in_most (suc n) R f h = by (R n) (h n) (sum_in_most n R f h)
-  where
-    by : (t : Bool) → pos 0 ≤ℤ f n → sum_in n R f ≤ℤ sum_in n everywhere f
-        → (cond t (f n) (pos 0) +ℤ sum_in n R f) ≤ℤ (f n +ℤ sum_in n everywhere f)
-    by true a c = omega (arith, ints)
-    by false a c = omega (arith, ints)
+sum_in_most (suc n) R f h = let a = h n in let e = sum_in_most n R f h in grind (arith, ints)
 
 -- A region that leaves out only zeros has the whole sum.
 pub sum_in_whole : (n : ℕ) (R : Region) (f : ℕ → ℤ) → ((v : ℕ) → v < n → R v ≡ false → f v ≡ pos 0) → sum_in n R f ≡ sum_in n everywhere f
 sum_in_whole zero R f h = refl
-sum_in_whole (suc n) R f h = by (R n) (h n (omega arith)) (sum_in_whole n R f (λ v l. h v (omega arith)))
-  where
-    by : (t : Bool) → (t ≡ false → f n ≡ pos 0) → sum_in n R f ≡ sum_in n everywhere f
-        → cond t (f n) (pos 0) +ℤ sum_in n R f ≡ f n +ℤ sum_in n everywhere f
-    by true k e = omega (arith, ints)
-    by false k e = let z = k refl in omega (arith, ints)
+sum_in_whole (suc n) R f h = let a = h n (omega arith) in let e = sum_in_whole n R f (λ v l. h v (omega arith)) in grind (arith, ints)
 
 -- A region with the whole sum has every place that adds to it.
 pub sum_in_has : (n : ℕ) (R : Region) (f : ℕ → ℤ) → ((v : ℕ) → pos 0 ≤ℤ f v) → sum_in n R f ≡ sum_in n everywhere f
     → (v : ℕ) → v < n → pos 0 <ℤ f v → R v ≡ true
 sum_in_has zero R f h e v l k = absurd (omega arith)
 sum_in_has (suc n) R f h e v l k =
-    let a = parts (R n) e (sum_in_most n R f h) (h n) in
-    ⊎_elim (λ i. ap R i ∙ a.1 (subst (λ (u : ℕ). pos 0 <ℤ f u) i k))
-    (λ i. sum_in_has n R f h a.0 v (omega arith) k)
+    let a = h n in
+    let c = sum_in_most n R f h in
+    ⊎_elim (λ i. let p = ap R i in let q = ap f i in grind (arith, ints))
+    (λ i. sum_in_has n R f h (grind (arith, ints)) v (omega arith) k)
     (cases_eq v n)
-  where
-    parts : (t : Bool) → cond t (f n) (pos 0) +ℤ sum_in n R f ≡ f n +ℤ sum_in n everywhere f → sum_in n R f ≤ℤ sum_in n everywhere f
-        → pos 0 ≤ℤ f n → (sum_in n R f ≡ sum_in n everywhere f) × (pos 0 <ℤ f n → t ≡ true)
-    parts true e l m = (omega (arith, ints), λ k. refl)
-    parts false e l m = (omega (arith, ints), λ k. absurd (omega (arith, ints)))
 
 -- Numbers that are not negative and sum to 0 are all 0.
 pub sum_in_even : (n : ℕ) (f : ℕ → ℤ) → ((v : ℕ) → pos 0 ≤ℤ f v) → sum_in n everywhere f ≡ pos 0 → (v : ℕ) → v < n → f v ≡ pos 0

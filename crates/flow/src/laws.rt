@@ -1,4 +1,5 @@
-// What holds of every board. Each function stands for the theorem that is its contract; what it answers says nothing.
+// What holds of every board. Each function stands for the theorem that is its contract, and does nothing.
+// Its attribute names the lemma that proves it. The check does not close six from the name: proofs/laws has their answers.
 ghost use Rattle.flow.specs.Laws.{
   ValidIsNetwork,
   WidthBounds,
@@ -19,113 +20,91 @@ ghost use Rattle.flow.specs.Laws.{
 };
 
 // A valid board is a network: its routes join its places, and home and port are two of them.
-pub fn valid_boards_are_networks() -> u8
+#[tactic(auto, using(crate::proofs::Bounds::valid_is_network))]
+pub fn valid_boards_are_networks()
     ensures { ValidIsNetwork }
-{
-    0
-}
+{}
 
 // A flow never delivers more than the width of any region with home and without port.
-pub fn widths_bound_deliveries() -> u8
+#[tactic(auto, using(crate::proofs::Bounds::width_bounds))]
+pub fn widths_bound_deliveries()
     ensures { WidthBounds }
-{
-    0
-}
+{}
 
 // Where a flow exists, no region with both ends or neither is overpromised by more than 0.
-pub fn flows_leave_none_overpromised() -> u8
+#[tactic(auto, using(crate::proofs::Bounds::none_overpromised))]
+pub fn flows_leave_none_overpromised()
     ensures { NoneOverpromised }
-{
-    0
-}
+{}
 
 // What goes through a closed region is its ceilings leaving minus its floors entering.
-pub fn closed_regions_are_full() -> u8
+#[tactic(auto, using(crate::proofs::Closing::closed_is_full))]
+pub fn closed_regions_are_full()
     ensures { ClosedIsFull }
-{
-    0
-}
+{}
 
 // A region through which that much goes is closed.
-pub fn full_regions_are_closed() -> u8
+#[tactic(auto, using(crate::proofs::Closing::full_is_closed))]
+pub fn full_regions_are_closed()
     ensures { FullIsClosed }
-{
-    0
-}
+{}
 
 // Widths and overpromises do not change when the routes are put into another order.
-pub fn order_of_routes_is_free() -> u8
+pub fn order_of_routes_is_free()
     ensures { OrderIsFree }
-{
-    0
-}
+{}
 
 // Boards with the same frame and the same routes, in whatever order, have the same right answer.
-pub fn one_right_answer() -> u8
+pub fn one_right_answer()
     ensures { OneAnswer }
-{
-    0
-}
+{}
 
 // A flow whose delivery equals the width of a region with home and without port is a greatest one.
-pub fn meeting_flows_are_greatest() -> u8
+#[tactic(auto, using(crate::proofs::Right::meeting_is_greatest))]
+pub fn meeting_flows_are_greatest()
     ensures { MeetingIsGreatest }
-{
-    0
-}
+{}
 
 // That region is the narrowest if it lies inside every closed region that has home.
-pub fn meeting_regions_are_right() -> u8
+pub fn meeting_regions_are_right()
     ensures { MeetingIsRight }
-{
-    0
-}
+{}
 
 // The excess, and the region that residual steps reach from the origins, where shares stay out of balance.
-pub fn excesses_are_right() -> u8
+pub fn excesses_are_right()
     ensures { ExcessIsRight }
-{
-    0
-}
+{}
 
 // Shares within the marks that leave no surplus and no shortage are a flow.
-pub fn even_shares_are_flows() -> u8
+#[tactic(auto, using(crate::proofs::Excess::even_is_flow))]
+pub fn even_shares_are_flows()
     ensures { EvenIsFlow }
-{
-    0
-}
+{}
 
 // The sum of the nets over a region equals what goes through it.
-pub fn nets_sum_to_what_goes_through() -> u8
+#[tactic(auto, using(crate::proofs::Bounds::nets_sum))]
+pub fn nets_sum_to_what_goes_through()
     ensures { NetsSum }
-{
-    0
-}
+{}
 
 // The sum of the nets over all places is 0.
-pub fn nets_cancel() -> u8
+#[tactic(auto, using(crate::proofs::Bounds::nets_cancel))]
+pub fn nets_cancel()
     ensures { NetsCancel }
-{
-    0
-}
+{}
 
 // In a flow the net of port is minus the delivery.
-pub fn what_leaves_arrives() -> u8
+pub fn what_leaves_arrives()
     ensures { Arrives }
-{
-    0
-}
+{}
 
 // Raising a share raises the net of its start, lowers the net of its end, and leaves every other net.
-pub fn pushing_moves_two_nets() -> u8
+#[tactic(auto, using(crate::proofs::Pushing::pushes))]
+pub fn pushing_moves_two_nets()
     ensures { Pushes }
-{
-    0
-}
+{}
 
 // A closed region stays closed while the nets of its places stay.
-pub fn closed_regions_stay_closed() -> u8
+pub fn closed_regions_stay_closed()
     ensures { StaysClosed }
-{
-    0
-}
+{}

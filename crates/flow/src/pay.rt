@@ -12,11 +12,5 @@ const TRACK: [u32; 41] = [
 pub fn pay(delivery: i32) -> u32
     ensures { result ≡ pay_for delivery }
 {
-    if delivery < 0 {
-        return 0;
-    }
-    if delivery > 40 {
-        return 820;
-    }
-    TRACK[delivery as usize]
+    TRACK[delivery.clamp(0, 40) as usize]
 }

@@ -8,18 +8,18 @@ use Rattle.bits.specs.Bits.{held}
 use Rattle.bits.specs.Fields.{width, offset, record_start, header_fields, record_fields}
 use Rattle.layout.specs.Questions.{field_questions, limit_questions, header_questions, order_questions, record_questions, records_questions}
 use Rattle.layout.specs.Stated.{stated, stating, route_at}
-use Rattle.layout.specs.declared.fault.SheetFault.TheVariants.{Bits, Frame, Order, RouteLimit, EntryLimit}
+use Rattle.layout.specs.declared.fault.SheetFault.TheVariants.{Bits, Frame, Order}
 use Rattle.bits.specs.declared.field.Field.{Field}
 use Rattle.bits.specs.declared.field.Field.TheVariants.{Places, Home, Port, Routes, Start, End, Floor, Ceiling}
 
 pub yes_first : {F : Type 0} (yes : Bool) (o : Option F) (f : F) → cond yes o (Some f) ≡ None → (yes ≡ true) × (o ≡ None)
 yes_first true o f e = (refl, e)
-yes_first false o f e = let z : ◌≡◌ {A = ℕ} 0 1 = cc in absurd (omega arith)
+yes_first false o f e = absurd cc
 
 pub field_held : (bits : List ℕ) (p : ℕ) (f : Field) (fs : List Field) → first_no (field_questions bits p (f ∷ fs)) ≡ None
     → (p + offset f + width f ≤ length bits) × (first_no (field_questions bits p fs) ≡ None)
 field_held bits p f fs e =
-    let y = yes_first (held bits (p + offset f) (width f)) (first_no (field_questions bits p fs)) (record { bit = p + offset f }) e in
+    let y = yes_first (held bits (p + offset f) (width f)) _ _ e in
     (leb-true (p + offset f + width f) (length bits) y.0, y.1)
 
 -- the last of four fields
@@ -43,8 +43,8 @@ module _ (entries : ℕ) (bits : List ℕ) where
       let frames = frame_questions (stated bits).shape in
       let outer = first_parts (handed_up Bits fields ++ handed_up Frame frames) (limit_questions entries n) e in
       let inner = first_parts (handed_up Bits fields) (handed_up Frame frames) outer.0 in
-      let l = yes_first (leb n 512) (cond (leb n entries) None (Some EntryLimit)) RouteLimit outer.1 in
-      let m = yes_first (leb n entries) None EntryLimit l.1 in
+      let l = yes_first (leb n 512) _ _ outer.1 in
+      let m = yes_first (leb n entries) _ _ l.1 in
       (none_handed Bits fields inner.0, none_handed Frame frames inner.1, leb-true n 512 l.0, leb-true n entries m.0)
 
   pub header_held : first_no (header_questions entries bits) ≡ None → 32 ≤ length bits

@@ -1,8 +1,9 @@
 -- The sheet of a valid board states that board, and every question on it gets a yes.
-use Rattle.std.proofs.Common.{◌≡◌, ℕ, zero, suc, ◌+◌, ◌-◌, ◌%◌, ◌^◌, ◌<◌, ◌≤◌, Bool, true, cond, List, [], ◌∷◌, ◌++◌, length, drop, ℤ, pos, negsuc, nat_abs, ◌≤ℤ◌, Some, None, sym, refl, ap, ◌∙◌, ap₂, add-zero, mod-eq_of_lt, zero-add, arith}
+use Rattle.std.proofs.Common.{◌≡◌, ℕ, zero, suc, ◌+◌, ◌-◌, ◌%◌, ◌^◌, ◌<◌, ◌≤◌, true, List, [], ◌∷◌, ◌++◌, length, drop, ℤ, pos, nat_abs, ◌≤ℤ◌, None, sym, refl, ap, ◌∙◌, add-zero, mod-eq_of_lt, zero-add, arith}
 use Rattle.std.proofs.lemmas.List.{append_assoc, length-append, length-drop, length-replicate}
 use Rattle.std.proofs.lemmas.Int.{ints}
-use Rattle.std.proofs.lemmas.Bool.{le-leb, lt-ltb}
+use Rattle.std.proofs.lemmas.Bool.{le-leb, lt-ltb, cond-true}
+use Rattle.std.proofs.lemmas.Bool.Decides.{nat_tests}
 use Rattle.std.specs.List.{flat_map, AllByRecursion}
 use Rattle.board.proofs.First.{first_none, all_handed, handed_on}
 use Rattle.board.proofs.Valid.{shape_accepted, route_accepted}
@@ -16,21 +17,18 @@ use Rattle.bits.specs.Bits.{digits, zeros}
 use Rattle.bits.specs.Fields.{width, offset, record_start, header_fields, record_fields}
 use Rattle.bits.specs.Signed.{narrowed, widened}
 use Rattle.layout.specs.Format.{header_bits, record_bits, sheet_bits}
-use Rattle.layout.specs.Questions.{field_questions, limit_questions, header_questions, order_questions, record_questions, records_questions, all_zero, zeros_before, end_questions, sheet_questions, sheet_fault}
+use Rattle.layout.specs.Questions.{field_questions, limit_questions, header_questions, order_questions, record_questions, records_questions, all_zero, end_questions, sheet_questions, sheet_fault}
 use Rattle.layout.specs.Stated.{stating, route_at, routes_from, stated}
-use Rattle.layout.specs.declared.fault.SheetFault.TheVariants.{Bits, Frame, Order, RouteLimit, EntryLimit, Trailing, Padding}
+use Rattle.layout.specs.declared.fault.SheetFault.TheVariants.{Bits, Frame, Order}
 use Rattle.bits.specs.declared.field.Field.{Field}
 use Rattle.bits.specs.declared.field.Field.TheVariants.{Places, Home, Port, Routes, Start, End, Floor, Ceiling}
 
 natural : (z : ℤ) → pos 0 ≤ℤ z → z ≤ℤ pos 4095 → (nat_abs z < 4096) × (pos (nat_abs z) ≡ z)
-natural (pos n) l u = (omega (arith, ints), refl)
-natural (negsuc n) l u = absurd (omega (arith, ints))
+natural z l u = (grind (arith, ints), grind (arith, ints))
 
 field_yes : (bits : List ℕ) (p : ℕ) (f : Field) (fs : List Field) → p + offset f + width f ≤ length bits
     → first_no (field_questions bits p fs) ≡ None → first_no (field_questions bits p (f ∷ fs)) ≡ None
-field_yes bits p f fs h e =
-    ap (λ (x : Bool). cond x (first_no (field_questions bits p fs)) (Some (record { bit = p + offset f }))) (le-leb (p + offset f + width f) (length bits) h)
-    ∙ e
+field_yes bits p f fs h e = cond-true _ _ _ (le-leb (p + offset f + width f) (length bits) h) ∙ e
 
 -- four fields that stand one after the other in what is left from bit p on
 module _ (bits : List ℕ) (p : ℕ) (a b c d : Field) (na nb nc nd : ℕ) (rest : List ℕ)
@@ -38,7 +36,7 @@ module _ (bits : List ℕ) (p : ℕ) (a b c d : Field) (na nb nc nd : ℕ) (rest
     (pa : 0 < width a) (pb : 0 < width b) (pc : 0 < width c) (pd : 0 < width d)
     (e : drop p bits ≡ digits (width a) na ++ (digits (width b) nb ++ (digits (width c) nc ++ (digits (width d) nd ++ rest)))) where
   moved : (q q' : ℕ) (xs : List ℕ) → drop q bits ≡ xs → q' ≡ q → drop q' bits ≡ xs
-  moved q q' xs h g = ap (λ (x : ℕ). drop x bits) g ∙ h
+  moved q q' xs h g = rw g h
 
   pub four_stand :
       (stating bits p a ≡ na % 2 ^ width a) × (stating bits p b ≡ nb % 2 ^ width b) × (stating bits p c ≡ nc % 2 ^ width c) × (stating bits p d ≡ nd % 2 ^ width d)
@@ -61,18 +59,6 @@ module _ (bits : List ℕ) (p : ℕ) (a b c d : Field) (na nb nc nd : ℕ) (rest
         sd.2,
       )
 
-abbrev route_of : ℕ → ℕ → ℤ → ℤ → Route
-route_of a b c d = record { start = a; end = b; floor = c; ceiling = d }
-
-abbrev shape_from : ℕ → ℕ → ℕ → Shape
-shape_from a b c = record { places = a; home = b; port = c }
-
-same_shape : (s : Shape) (a b c : ℕ) → a ≡ s.places → b ≡ s.home → c ≡ s.port → shape_from a b c ≡ s
-same_shape s a b c p q f = ap₂ (λ (x y : ℕ). shape_from x y c) p q ∙ ap (λ (x : ℕ). shape_from s.places s.home x) f
-
-same_route : (r : Route) (a b : ℕ) (c d : ℤ) → a ≡ r.start → b ≡ r.end → c ≡ r.floor → d ≡ r.ceiling → route_of a b c d ≡ r
-same_route r a b c d p q f g = ap₂ (λ (x y : ℕ). route_of x y c d) p q ∙ ap₂ (λ (x y : ℤ). route_of r.start r.end x y) f g
-
 -- one record
 record_back : (bits : List ℕ) (s : Shape) (k : ℕ) (r : Route) (rest : List ℕ) → s.places ≤ 128 → ValidRoute s r → drop (record_start k) bits ≡ record_bits r ++ rest
     → (route_at bits (record_start k) ≡ r) × (first_no (record_questions bits s k) ≡ None) × (drop (record_start (suc k)) bits ≡ rest)
@@ -89,7 +75,7 @@ record_back bits s k r rest few v e =
     let f₁ = f.1 ∙ mod-eq_of_lt {m = 2 ^ 7} (omega (arith, v.end_inside)) in
     let f₂ = ap widened (f.2 ∙ mod-eq_of_lt {m = 2 ^ 13} n) ∙ widened_narrowed r.floor v.floor_low top in
     let f₃ = ap pos (f.3 ∙ mod-eq_of_lt {m = 2 ^ 12} c.0) ∙ c.1 in
-    let route : route_at bits (record_start k) ≡ r = same_route r _ _ _ _ f₀ f₁ f₂ f₃ in (
+    let route : route_at bits (record_start k) ≡ r = rw (f₀, f₁, f₂, f₃) in (
       route,
       handed_on Bits (field_questions bits (record_start k) record_fields) (handed_up Order (order_questions s k (route_at bits (record_start k)))) f.4
           ∙ all_handed Order (order_questions s k (route_at bits (record_start k)))
@@ -103,11 +89,11 @@ records_back : (bits : List ℕ) (s : Shape) (k : ℕ) (rs : List Route) (rest :
     → drop (record_start k) bits ≡ flat_map record_bits rs ++ rest
     → (routes_from bits k (length rs) ≡ rs) × (first_no (records_questions bits s k (length rs)) ≡ None) × (drop (record_start (k + length rs)) bits ≡ rest)
 unfolding routes_from records_questions
-records_back bits s k [] rest few v e = (refl, refl, ap (λ (x : ℕ). drop (record_start x) bits) (add-zero k) ∙ e)
+records_back bits s k [] rest few v e = (refl, refl, rw add-zero e)
 records_back bits s k (r ∷ rs) rest few v e =
     let one = record_back bits s k r (flat_map record_bits rs ++ rest) few v.0 (e ∙ append_assoc (record_bits r) (flat_map record_bits rs) rest) in
     let more = records_back bits s (suc k) rs rest few v.1 one.2 in (
-      ap₂ (λ (x : Route) (y : List Route). x ∷ y) one.0 more.0,
+      rw (one.0, more.0),
       first_none (record_questions bits s k) (records_questions bits s (suc k) (length rs)) one.1 ∙ more.1,
       ap (λ (x : ℕ). drop (record_start x) bits) (omega arith) ∙ more.2,
     )
@@ -126,11 +112,10 @@ header_back bits entries b rest v room e =
     let f₁ = f.1 ∙ mod-eq_of_lt {m = 2 ^ 7} (omega (arith, w.few, w.home_inside)) in
     let f₂ = f.2 ∙ mod-eq_of_lt {m = 2 ^ 7} (omega (arith, w.few, w.port_inside)) in
     let f₃ = f.3 ∙ mod-eq_of_lt {m = 2 ^ 10} (omega (arith, v.few)) in
-    let shape : (stated bits).shape ≡ b.shape = same_shape b.shape _ _ _ f₀ f₁ f₂ in
+    let shape : (stated bits).shape ≡ b.shape = rw (f₀, f₁, f₂) in
     let n = stating bits 0 Routes in
-    let limits : first_no (limit_questions entries n) ≡ None =
-    ap₂ (λ (x y : Bool). cond x (cond y None (Some EntryLimit)) (Some RouteLimit)) (le-leb n 512 (omega (arith, f₃, v.few))) (le-leb n entries (omega (arith, f₃)))
-    in
+    let few = v.few in
+    let limits : first_no (limit_questions entries n) ≡ None = grind (arith, nat_tests) in
     let fields = field_questions bits 0 header_fields in
     let frames = frame_questions (stated bits).shape in
     let accepted : first_no frames ≡ None = ap (λ (x : Shape). first_no (frame_questions x)) shape ∙ shape_accepted b.shape w in (
@@ -142,9 +127,6 @@ header_back bits entries b rest v room e =
       f.5,
     )
 
-abbrev board_from : Shape → List Route → Board
-board_from s rs = record { shape = s; routes = rs }
-
 all_zeros : (n : ℕ) → all_zero (zeros n) ≡ true
 unfolding all_zero
 all_zeros zero = refl
@@ -155,8 +137,7 @@ end_back : (bits : List ℕ) (r z : ℕ) → z < 8 → record_start r ≤ length
 unfolding end_questions
 end_back bits r z h l e =
     let n : length bits - record_start r ≡ z = sym (length-drop (record_start r) bits) ∙ ap length e ∙ length-replicate z 0 in
-    ap₂ (λ (x y : Bool). cond x (cond y None (Some (Padding r (record_start r + zeros_before (drop (record_start r) bits))))) (Some (Trailing r)))
-    (lt-ltb (length bits - record_start r) 8 (omega arith)) (ap all_zero e ∙ all_zeros z)
+    rw (lt-ltb (length bits - record_start r) 8 (omega arith), ap all_zero e ∙ all_zeros z)
 
 -- the whole sheet
 pub sheet_back : (bits : List ℕ) (entries : ℕ) (b : Board) (z : ℕ) → Valid b → length b.routes ≤ entries → z < 8 → bits ≡ sheet_bits b ++ zeros z
@@ -168,13 +149,11 @@ sheet_back bits entries b z v room h e =
     let header = header_back bits entries b (flat_map record_bits b.routes ++ zeros z) v room (e ∙ append_assoc (header_bits b) (flat_map record_bits b.routes) (zeros z)) in
     let records = records_back bits b.shape 0 b.routes (zeros z) v.frame.few v.each header.3 in
     let long : record_start m ≤ length bits = omega (arith, ap length e, length-append (sheet_bits b) (zeros z), length_sheet_bits b) in
-    let tail : drop (record_start m) bits ≡ zeros z = ap (λ (x : ℕ). drop (record_start x) bits) (sym (zero-add m)) ∙ records.2 in
-    let asked : first_no (records_questions bits (stated bits).shape 0 n) ≡ None =
-    ap₂ (λ (x : Shape) (y : ℕ). first_no (records_questions bits x 0 y)) header.1 header.0 ∙ records.1
-    in
-    let last : first_no (end_questions bits n) ≡ None = ap (λ (x : ℕ). first_no (end_questions bits x)) header.0 ∙ end_back bits m z h long tail in (
+    let tail : drop (record_start m) bits ≡ zeros z = rw zero-add at records.2 in
+    let asked : first_no (records_questions bits (stated bits).shape 0 n) ≡ None = rw (header.1, header.0) records.1 in
+    let last : first_no (end_questions bits n) ≡ None = rw header.0 (end_back bits m z h long tail) in (
       first_none (header_questions entries bits ++ records_questions bits (stated bits).shape 0 n) (end_questions bits n)
           (first_none (header_questions entries bits) (records_questions bits (stated bits).shape 0 n) header.2 ∙ asked)
           ∙ last,
-      ap₂ (λ (x : Shape) (y : List Route). board_from x y) header.1 (ap (routes_from bits 0) header.0 ∙ records.0),
+      rw (header.1, header.0, records.0),
     )

@@ -1,5 +1,5 @@
 -- Bits whose questions get a yes each are the sheet of the board that they state, and that board is valid.
-use Rattle.std.proofs.Common.{◌≡◌, ℕ, zero, suc, ◌+◌, ◌-◌, ◌*◌, ◌<◌, ◌≤◌, true, cond, eqb, ltb, List, [], ◌∷◌, ◌++◌, length, drop, Some, None, sym, refl, ap, ◌∙◌, ap₂, add-zero, zero-add, arith}
+use Rattle.std.proofs.Common.{◌≡◌, ℕ, zero, suc, ◌+◌, ◌-◌, ◌*◌, ◌<◌, ◌≤◌, true, eqb, ltb, List, [], ◌∷◌, ◌++◌, length, drop, None, sym, refl, ap, ◌∙◌, add-zero, zero-add, arith}
 use Rattle.std.proofs.lemmas.List.{append_assoc, length-drop}
 use Rattle.std.proofs.lemmas.Bool.{ltb-true, eqb-true, and_parts}
 use Rattle.std.specs.List.{flat_map, AllByRecursion}
@@ -15,11 +15,9 @@ use Rattle.layout.proofs.Stated.{length_routes_from}
 use Rattle.bits.proofs.TwosComplement.{narrowed_widened}
 use Rattle.bits.specs.Bits.{digits, zeros, fill}
 use Rattle.bits.specs.Fields.{width, offset, record_start}
-use Rattle.bits.specs.Signed.{narrowed, widened}
 use Rattle.layout.specs.Format.{header_bits, record_bits, sheet_bits}
-use Rattle.layout.specs.Questions.{field_questions, header_questions, record_questions, records_questions, all_zero, zeros_before, end_questions, sheet_questions, sheet_fault}
+use Rattle.layout.specs.Questions.{field_questions, header_questions, record_questions, records_questions, all_zero, end_questions, sheet_questions, sheet_fault}
 use Rattle.layout.specs.Stated.{stating, route_at, routes_from, stated}
-use Rattle.layout.specs.declared.fault.SheetFault.TheVariants.{Trailing, Padding}
 use Rattle.bits.specs.declared.field.Field.{Field}
 use Rattle.bits.specs.declared.field.Field.TheVariants.{Places, Home, Port, Routes, Start, End, Floor, Ceiling}
 
@@ -38,12 +36,7 @@ module _ (bits : List ℕ) (binary : Binary bits) where
       let at : (f : Field) (q : ℕ) → q ≡ p + offset f → p + offset f + width f ≤ length bits → drop q bits ≡ digits (width f) (stating bits p f) ++ drop (p + offset f + width f) bits =
       λ f q g h. ap (λ (x : ℕ). drop x bits) g ∙ field_bits bits (p + offset f) (width f) binary h
       in
-      at a p (omega arith) ha.0
-      ∙ ap (λ (x : List ℕ). digits (width a) (stating bits p a) ++ x)
-      (at b (p + offset a + width a) (omega arith) hb.0
-      ∙ ap (λ (x : List ℕ). digits (width b) (stating bits p b) ++ x)
-      (at c (p + offset b + width b) (omega arith) hc.0
-      ∙ ap (λ (x : List ℕ). digits (width c) (stating bits p c) ++ x) (at d (p + offset c + width c) (omega arith) hd.0)))
+      rw (at a p (omega arith) ha.0, at b (p + offset a + width a) (omega arith) hb.0, at c (p + offset b + width b) (omega arith) hc.0, at d (p + offset c + width c) (omega arith) hd.0)
 
   -- one record
   record_again : (s : Shape) (k : ℕ) → first_no (record_questions bits s k) ≡ None
@@ -53,28 +46,21 @@ module _ (bits : List ℕ) (binary : Binary bits) where
       let parts = record_parts bits s k e in
       let f = four_bits (record_start k) Start End Floor Ceiling refl refl refl refl parts.0 in
       let floor = narrowed_widened (stating bits (record_start k) Floor) (field_at_lt bits (record_start k + 14) 13 binary) in
-      let next : record_start k + 27 + 12 ≡ record_start (suc k) = omega arith in
-      let back : digits 13 (stating bits (record_start k) Floor) ≡ digits 13 (narrowed (widened (stating bits (record_start k) Floor))) = ap (digits 13) (sym floor) in (
-        f
-            ∙ ap₂
-            (λ (x : List ℕ) (y : ℕ). digits 7 (stating bits (record_start k) Start) ++ (digits 7 (stating bits (record_start k) End) ++ (x ++ (digits 12 (stating bits (record_start k) Ceiling) ++ drop y bits))))
-            back next
-            ∙ simp append_assoc,
-        route_valid s (route_at bits (record_start k))
-            parts.1,
+      let next : record_start (suc k) ≡ record_start k + 27 + 12 = omega arith in (
+        rw (floor, next) (f ∙ simp append_assoc),
+        route_valid s (route_at bits (record_start k)) parts.1,
       )
 
   records_again : (s : Shape) (k n : ℕ) → first_no (records_questions bits s k n) ≡ None
       → (drop (record_start k) bits ≡ flat_map record_bits (routes_from bits k n) ++ drop (record_start (k + n)) bits) × AllByRecursion (ValidRoute s) (routes_from bits k n)
   unfolding routes_from
-  records_again s k zero e = (ap (λ (x : ℕ). drop (record_start x) bits) (sym (add-zero k)), tt)
+  records_again s k zero e = (rw add-zero, tt)
   records_again s k (suc n) e =
       let parts = records_parts bits s k n e in
       let one = record_again s k parts.0 in
-      let more = records_again s (suc k) n parts.1 in (
-        one.0
-            ∙ ap (λ (x : List ℕ). record_bits (route_at bits (record_start k)) ++ x) (more.0 ∙ ap (λ (x : ℕ). flat_map record_bits (routes_from bits (suc k) n) ++ drop (record_start x) bits) (omega arith))
-            ∙ sym (append_assoc (record_bits (route_at bits (record_start k))) (flat_map record_bits (routes_from bits (suc k) n)) (drop (record_start (k + suc n)) bits)),
+      let more = records_again s (suc k) n parts.1 in
+      let step : suc k + n ≡ k + suc n = omega arith in (
+        rw (one.0, more.0, step) (simp append_assoc),
         (one.1, more.1),
       )
 
@@ -84,15 +70,9 @@ module _ (bits : List ℕ) (binary : Binary bits) where
   unfolding header_bits stated
   header_again entries e =
       let parts = header_parts entries bits e in
-      let f = four_bits 0 Places Home Port Routes refl refl refl refl parts.0 in
-      let n : stating bits 0 Routes ≡ length (routes_from bits 0 (stating bits 0 Routes)) = sym (length_routes_from bits 0 (stating bits 0 Routes)) in (
-        f
-            ∙ ap
-            (λ (x : ℕ). digits 8 (stating bits 0 Places) ++ (digits 7 (stating bits 0 Home) ++ (digits 7 (stating bits 0 Port) ++ (digits 10 x ++ drop 32 bits))))
-            n
-            ∙ simp append_assoc,
-        shape_valid (stated bits).shape
-            parts.1,
+      let f = four_bits 0 Places Home Port Routes refl refl refl refl parts.0 in (
+        rw (length_routes_from bits 0 (stating bits 0 Routes)) (f ∙ simp append_assoc),
+        shape_valid (stated bits).shape parts.1,
         parts.2,
         parts.3,
       )
@@ -102,16 +82,15 @@ unfolding all_zero
 zeros_again [] e = refl
 zeros_again (x ∷ xs) e =
     let b = and_parts (eqb x 0) (all_zero xs) e in
-    ap₂ (λ (y : ℕ) (ys : List ℕ). y ∷ ys) (eqb-true x 0 b.0) (zeros_again xs b.1)
+    rw (eqb-true x 0 b.0) (ap (λ (ys : List ℕ). 0 ∷ ys) (zeros_again xs b.1))
 
 -- what is left after the records
 end_again : (bits : List ℕ) (r : ℕ) → first_no (end_questions bits r) ≡ None
     → (length bits - record_start r < 8) × (drop (record_start r) bits ≡ zeros (length bits - record_start r))
 unfolding end_questions
 end_again bits r e =
-    let padding = Padding r (record_start r + zeros_before (drop (record_start r) bits)) in
-    let few = yes_first (ltb (length bits - record_start r) 8) (cond (all_zero (drop (record_start r) bits)) None (Some padding)) (Trailing r) e in
-    let rest = yes_first (all_zero (drop (record_start r) bits)) None padding few.1 in (
+    let few = yes_first (ltb (length bits - record_start r) 8) _ _ e in
+    let rest = yes_first (all_zero (drop (record_start r) bits)) _ _ few.1 in (
       ltb-true (length bits - record_start r) 8 few.0,
       zeros_again (drop (record_start r) bits) rest.0 ∙ ap zeros (length-drop (record_start r) bits),
     )
@@ -140,10 +119,5 @@ sheet_again bits entries m binary whole e =
     in (
       record { frame = header.1; few = omega (arith, header.2); each = records.1 },
       omega (arith, header.3),
-      header.0
-          ∙ ap (λ (x : List ℕ). header_bits (stated bits) ++ x)
-          (records.0
-          ∙ ap (λ (x : List ℕ). flat_map record_bits (routes_from bits 0 n) ++ x)
-          (ap (λ (x : ℕ). drop (record_start x) bits) (zero-add n) ∙ end.1 ∙ ap zeros pad))
-          ∙ sym (append_assoc (header_bits (stated bits)) (flat_map record_bits (routes_from bits 0 n)) (zeros (fill (length (sheet_bits (stated bits)))))),
+      header.0 ∙ rw (records.0, zero-add n, end.1, pad) (simp append_assoc),
     )

@@ -1,5 +1,5 @@
 -- The theorems about every sheet.
-use Rattle.std.proofs.Common.{◌≡◌, ℕ, List, length, Some, None, Ok, Err, Option, Result, sym, refl, ◌∙◌, subst, ap₂, arith}
+use Rattle.std.proofs.Common.{◌≡◌, ℕ, List, length, Some, None, Ok, Err, Option, Result, sym, refl, ◌∙◌, arith}
 use Rattle.board.specs.Board.{Board, Valid}
 use Rattle.board.specs.Questions.{answer}
 use Rattle.bits.proofs.Bits.{binary_bits_of, length_bits_of}
@@ -19,7 +19,7 @@ back entries b bytes s =
 pub reads_back : ReadsBack
 reads_back b bytes entries s =
     let e = back entries b bytes s in
-    ap₂ (λ (x : Option SheetFault) (y : Board). answer x y) e.0 e.1
+    rw (e.0, e.1)
 
 pub one_board : OneBoard
 one_board a b bytes va vb sa sb =
@@ -37,6 +37,6 @@ reads entries bytes (Ok b) e = accepted (sheet_fault entries (bits_of bytes)) re
         let s = sheet_again (bits_of bytes) entries (length bytes) (binary_bits_of bytes) (length_bits_of bytes) f in
         let same : stated (bits_of bytes) ≡ b = cc in
         let read : SheetOf entries (stated (bits_of bytes)) bytes = record { valid = s.0; few = s.1; sheet = s.2 } in
-        subst (λ (x : Board). SheetOf entries x bytes) same read
-    accepted (Some x) f g = let z : ◌≡◌ {A = ℕ} 0 1 = cc in absurd (omega arith)
-reads entries bytes (Err f) e = λ b s. let g = e ∙ reads_back b bytes entries s in let z : ◌≡◌ {A = ℕ} 0 1 = cc in absurd (omega arith)
+        rw same at read
+    accepted (Some x) f g = absurd cc
+reads entries bytes (Err f) e = λ b s. let g = e ∙ reads_back b bytes entries s in cc

@@ -4,7 +4,8 @@
 --   record_of                  the record that was asked about
 --   bit_of                     the bit where the failing field begins
 --   frame_field, route_field   the field that a frame, or a route, is refused for
-use Rattle.std.specs.Prelude.{ℕ, ◌+◌, ◌-◌, ◌/◌, cond, List, codes, nat_lt}
+--   fault_words                the text of four such things           fault_text   the text of a fault
+use Rattle.std.specs.Prelude.{ℕ, ◌+◌, ◌-◌, ◌/◌, cond, List, ◌++◌, codes, decimal, nat_lt}
 use Rattle.board.specs.Questions.{frame_number, route_number}
 use Rattle.board.specs.declared.fault.FrameFault.{FrameFault}
 use Rattle.board.specs.declared.fault.FrameFault.TheVariants.{PlaceCount, HomeUnknown, PortUnknown}
@@ -78,3 +79,12 @@ bit_of RouteLimit = offset Routes
 bit_of EntryLimit = offset Routes
 bit_of (Trailing r) = record_start r
 bit_of (Padding r b) = b
+
+-- A number, the name of a layer, a record and a bit, with a blank between each two.
+abbrev pub fault_words : ℕ → List ℕ → ℕ → ℕ → List ℕ
+fault_words number layer place bit =
+    decimal number ++ (codes " " ++ (layer ++ (codes " " ++ (decimal place ++ (codes " " ++ decimal bit)))))
+
+-- A fault, as it is printed: what it tells, in that order.
+abbrev pub fault_text : SheetFault → List ℕ
+fault_text f = fault_words (sheet_number f) (layer_name (layer_of f)) (record_of f) (bit_of f)

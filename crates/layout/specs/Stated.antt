@@ -3,7 +3,7 @@
 --   route_at      the route that a record states
 --   routes_from   the routes of so many records
 --   stated        the board that a sheet's bits state
-use Rattle.std.specs.Prelude.{ℕ, zero, suc, ◌+◌, List, [], ◌∷◌, pos, Some, None, Option}
+use Rattle.std.specs.Prelude.{ℕ, zero, suc, ◌+◌, List, [], ◌∷◌, pos}
 use Rattle.board.specs.Board.{Board}
 use Rattle.board.specs.declared.route.Route.{Route}
 use Rattle.bits.specs.Bits.{field_at}

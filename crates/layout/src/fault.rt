@@ -1,11 +1,19 @@
 // Why a sheet is refused. Each layer hands up the fault of the layer below whole.
-ghost use Rattle.std.specs.Prelude.{◌≡◌};
-ghost use Rattle.layout.specs.Faults.{sheet_number, layer_of, record_of, bit_of, layer_name, frame_field, route_field};
+ghost use Rattle.std.specs.Prelude.{◌≡◌, Some};
+ghost use Rattle.layout.specs.Faults.{sheet_number, layer_of, record_of, bit_of, layer_name, fault_text, frame_field, route_field};
 ghost use Rattle.layout.specs.declared.fault.SheetFault.TheVariants.{Bits, Frame, Order};
 
 use bits::fault::BitFault;
 use bits::field::{Field, record_start};
 use board::fault::{FrameFault, RouteFault};
+use std::error::Error;
+use std::fmt;
+
+// How many bits the header has.
+const HEADER_BITS: usize = 32;
+
+// How many bits each record has.
+const RECORD_BITS: usize = 39;
 
 // The route of this number, as the sheet states it, is refused.
 #[derive(Clone, Copy, PartialEq, Eq, Debug)]
@@ -80,6 +88,30 @@ impl Layer {
     }
 }
 
+// A layer prints as its name.
+impl fmt::Display for Layer {
+    ghost output = { λ l. Some (layer_name l) };
+
+    fn fmt<W: fmt::Write>(&self, f: &mut fmt::Formatter<W>) -> fmt::Result {
+        f.write_str(self.name())
+    }
+}
+
+// A fault prints as its number, its layer, its record and its bit.
+impl fmt::Display for SheetFault {
+    ghost output = { λ f. Some (fault_text f) };
+
+    fn fmt<W: fmt::Write>(&self, f: &mut fmt::Formatter<W>) -> fmt::Result {
+        let number = self.number();
+        let layer = self.layer();
+        let record = self.record();
+        let bit = self.bit();
+        write!(f, "{number} {layer} {record} {bit}")
+    }
+}
+
+impl Error for SheetFault {}
+
 impl SheetFault {
     // The question's number.
     pub fn number(self) -> u8
@@ -104,7 +136,10 @@ impl SheetFault {
             SheetFault::Bits(_) => Layer::Bits,
             SheetFault::Frame(_) => Layer::Frame,
             SheetFault::Order(_) => Layer::Order,
-            _ => Layer::Sheet,
+            SheetFault::RouteLimit
+            | SheetFault::EntryLimit
+            | SheetFault::Trailing { .. }
+            | SheetFault::Padding { .. } => Layer::Sheet,
         }
     }
 
@@ -113,17 +148,14 @@ impl SheetFault {
         ensures { result ≡ record_of self }
     {
         match self {
-            SheetFault::Bits(fault) => {
-                if fault.bit < 32 {
-                    0
-                } else {
-                    (fault.bit - 32) / 39 + 1
-                }
+            SheetFault::Bits(BitFault { bit }) => bit
+                .checked_sub(HEADER_BITS)
+                .map_or(0, |past| past / RECORD_BITS + 1),
+            SheetFault::Frame(_) | SheetFault::RouteLimit | SheetFault::EntryLimit => 0,
+            SheetFault::Order(order) => usize::from(order.route) + 1,
+            SheetFault::Trailing { routes } | SheetFault::Padding { routes, .. } => {
+                usize::from(routes) + 1
             }
-            SheetFault::Order(order) => order.route as usize + 1,
-            SheetFault::Trailing { routes } => routes as usize + 1,
-            SheetFault::Padding { routes, .. } => routes as usize + 1,
-            _ => 0,
         }
     }
 

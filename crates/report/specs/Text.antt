@@ -1,30 +1,25 @@
 -- What is printed of a sheet, as bytes of text.
---   refusal       the line for a refused sheet      refused_line   the same, by its fault
---   frame_lines   the lines for a frame
---   route_words   the line for a route              route_line     the same, by the route
---   route_lines   the lines for all routes, by number
---   board_text    all lines for a board
---   answer_text   the text of an answer to a sheet
---   described     what is printed of a sheet
+--   refused_line   the line for a refused sheet
+--   frame_lines    the lines for a frame
+--   route_words    the line for a route             route_line   the same, by the route
+--   route_lines    the lines for all routes, by number
+--   board_text     all lines for a board
+--   answer_text    the text of an answer to a sheet
+--   described      what is printed of a sheet
 use Rattle.std.specs.Prelude.{ℕ, suc, List, [], ◌∷◌, ◌++◌, ℤ, Ok, Err, codes, decimal, Result}
 use Rattle.std.specs.Fmt.{signed_decimal}
 use Rattle.board.specs.Board.{Board, Shape}
 use Rattle.board.specs.Questions.{answer}
 use Rattle.board.specs.declared.route.Route.{Route}
 use Rattle.bits.specs.Bits.{bits_of}
-use Rattle.layout.specs.Faults.{sheet_number, layer_of, layer_name, record_of, bit_of}
+use Rattle.layout.specs.Faults.{fault_text}
 use Rattle.layout.specs.Questions.{sheet_fault}
 use Rattle.layout.specs.Stated.{stated}
 use Rattle.layout.specs.declared.fault.SheetFault.{SheetFault}
 
--- A refused sheet: the word, a number, the name of a layer, a record and a bit.
-abbrev pub refusal : ℕ → List ℕ → ℕ → ℕ → List ℕ
-refusal number layer at bit =
-    codes "refused " ++ (decimal number ++ (codes " " ++ (layer ++ (codes " " ++ (decimal at ++ (codes " " ++ (decimal bit ++ codes "\n")))))))
-
--- A refused sheet, by its fault.
+-- A refused sheet: the word, then what its fault tells.
 abbrev pub refused_line : SheetFault → List ℕ
-refused_line f = refusal (sheet_number f) (layer_name (layer_of f)) (record_of f) (bit_of f)
+refused_line f = codes "refused " ++ (fault_text f ++ codes "\n")
 
 -- A frame: how many places, home and port.
 abbrev pub frame_lines : Shape → List ℕ

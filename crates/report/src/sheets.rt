@@ -16,11 +16,7 @@ const ENTRIES: usize = 512;
 pub fn refused(heap: Global, fault: SheetFault) -> Result<String, AllocError>
     ensures { IfOk result (λ s. string_bytes s ≡ refused_line fault) }
 {
-    let number = fault.number();
-    let layer = fault.layer().name();
-    let record = fault.record();
-    let bit = fault.bit();
-    format!(in heap; "refused {number} {layer} {record} {bit}\n")
+    format!(in heap; "refused {fault}\n")
 }
 
 // The lines for a frame.
