@@ -2,8 +2,9 @@
 ghost use Rattle.std.specs.Prelude.{◌≡◌, ◌^◌, ◌<◌, length, slice_get};
 ghost use Rattle.board.specs.Board.{Valid};
 ghost use Rattle.bits.specs.Bits.{bits_of};
+ghost use Rattle.bits.specs.Fields.{width};
 ghost use Rattle.layout.specs.Format.{IsSheet};
-ghost use Rattle.layout.specs.Stated.{stated, route_at};
+ghost use Rattle.layout.specs.Stated.{stated, stating, route_at};
 
 use crate::routes::Routes;
 use bits::field::{Field, record_start};
@@ -28,18 +29,19 @@ impl<'a> Sheet<'a> {
     pub fn frame(&self) -> Frame
         ensures { result ≡ (board_of self.now).shape }
     {
-        let places = field_at(self.bytes, Field::Places.offset(), Field::Places);
-        let home = field_at(self.bytes, Field::Home.offset(), Field::Home);
-        let port = field_at(self.bytes, Field::Port.offset(), Field::Port);
+        let places = stating(self.bytes, 0, Field::Places);
+        let home = stating(self.bytes, 0, Field::Home);
+        let port = stating(self.bytes, 0, Field::Port);
         Frame::new(usize::from(places), usize::from(home), usize::from(port)).unwrap()
     }
 
     // How many routes the board has.
+    #[tactic(auto, using(layout::proofs::Stated::length_routes_from), unfolding(layout::specs::Stated::stated))]
     pub fn len(&self) -> usize
         ensures value { result ≡ length (board_of self.now).routes }
         ensures bound { result < 2 ^ 10 }
     {
-        usize::from(field_at(self.bytes, Field::Routes.offset(), Field::Routes))
+        usize::from(stating(self.bytes, 0, Field::Routes))
     }
 
     // The route of this number; none from the number of routes on.
@@ -64,19 +66,25 @@ impl<'a> Sheet<'a> {
     }
 }
 
+// The number that a field states, of the header (from bit 0 on) or of the record from bit `start` on.
+fn stating(bytes: &[u8], start: usize, field: Field) -> u16
+    requires { start < 2 ^ 32 }
+    ensures value { result ≡ stating (bits_of bytes.now) start field }
+    ensures bound { result < 2 ^ width field }
+{
+    field_at(bytes, start + field.offset(), field)
+}
+
 // The route that the record from bit `start` on states.
+#[tactic(auto, unfolding(layout::specs::Stated::route_at))]
 fn route_at(bytes: &[u8], start: usize) -> Route
     requires { start < 2 ^ 32 }
     ensures { result ≡ route_at (bits_of bytes.now) start }
 {
-    let from = field_at(bytes, start + Field::Start.offset(), Field::Start);
-    let to = field_at(bytes, start + Field::End.offset(), Field::End);
-    let floor = field_at(bytes, start + Field::Floor.offset(), Field::Floor);
-    let ceiling = field_at(bytes, start + Field::Ceiling.offset(), Field::Ceiling);
     Route {
-        start: from as u8,
-        end: to as u8,
-        floor: widen(floor),
-        ceiling: ceiling as i16,
+        start: stating(bytes, start, Field::Start) as u8,
+        end: stating(bytes, start, Field::End) as u8,
+        floor: widen(stating(bytes, start, Field::Floor)),
+        ceiling: stating(bytes, start, Field::Ceiling) as i16,
     }
 }
