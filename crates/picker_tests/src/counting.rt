@@ -3,10 +3,10 @@ use picker::drain::drain;
 use picker::newest_first::NewestFirst;
 use picker::oldest_first::OldestFirst;
 use picker::picker::Picker;
-use ranked::amount_entry::AmountEntry;
+use ranked::entry::{AmountEntry, MarkerEntry};
 use ranked::largest_amount::LargestAmount;
 use ranked::lowest_marker::LowestMarker;
-use ranked::marker_entry::MarkerEntry;
+use std::cmp::Reverse;
 use std::process::Abort;
 
 // Puts and takes a place so often.
@@ -60,14 +60,14 @@ fn queues(rt: HostRuntime) {
 #[test]
 fn by_rank(rt: HostRuntime) {
     let mut marks = [MarkerEntry {
-        marker: 0,
+        rank: 0,
         place: 0,
     }; 4];
     let mut lowest = LowestMarker::new(&[9, 9, 9, 9, 9, 9, 9], &mut marks);
     counts(&rt, &mut lowest);
     stops(&rt, &mut lowest);
     let mut amounts = [AmountEntry {
-        amount: 0,
+        rank: Reverse(0),
         place: 0,
     }; 4];
     let mut largest = LargestAmount::new(&mut amounts);

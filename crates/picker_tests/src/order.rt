@@ -2,10 +2,10 @@
 use picker::newest_first::NewestFirst;
 use picker::oldest_first::OldestFirst;
 use picker::picker::Picker;
-use ranked::amount_entry::AmountEntry;
+use ranked::entry::{AmountEntry, MarkerEntry};
 use ranked::largest_amount::LargestAmount;
 use ranked::lowest_marker::LowestMarker;
-use ranked::marker_entry::MarkerEntry;
+use std::cmp::Reverse;
 use std::process::Abort;
 
 // Places with their amounts, in the order in which they are put: some wait twice, and some amounts are equal.
@@ -24,12 +24,12 @@ const PUT: [(u8, u32); 8] = [
 const MARKERS: [u8; 8] = [3, 0, 2, 9, 9, 1, 0, 2];
 
 const NO_MARK: MarkerEntry = MarkerEntry {
-    marker: 0,
+    rank: 0,
     place: 0,
 };
 
 const NO_AMOUNT: AmountEntry = AmountEntry {
-    amount: 0,
+    rank: Reverse(0),
     place: 0,
 };
 
