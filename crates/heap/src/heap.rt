@@ -12,7 +12,7 @@ pub struct Heap<'a, E: Entry> {
     entries: &'a mut [E],
     len: usize,
     ghost few: { len ≤ length entries.now },
-    ghost ordered: { Ordered E.before (take len entries.now) },
+    pub ghost ordered: { Ordered E.before (take len entries.now) },
 }
 
 impl<'a, E: Entry> Heap<'a, E> {

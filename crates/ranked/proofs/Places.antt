@@ -4,6 +4,7 @@ use Rattle.std.specs.List.Sorted.{IsPermutation}
 use Rattle.std.proofs.lemmas.List.{length-map}
 use Rattle.std.proofs.lemmas.List.Sorted.{IsPermutation-map}
 use Rattle.heap.specs.Order.{Pushed}
+use Rattle.picker.specs.Fault.{put_check}
 use Rattle.picker.specs.Meaning.{waiting_below, put_answer, put_to, counted, Took, Inside, occurs, meaning_of}
 use Rattle.picker.proofs.Listed.{waiting_occurs, taken_in, asked_accepted, joined_inside, took_some}
 
@@ -13,24 +14,26 @@ module _ {E : Type 0} (place : E → ℕ) where
   waiting_places xs all = waiting_occurs (map place xs) all ∙ length-map xs place
 
   module _ (xs ys : List E) (room after count : ℕ) (same : after ≡ room) where
-    -- An entry of which no question got a no is pushed, and its place waits.
-    pub put_pushed : (x : E) (r : Result (Unit {0}) E) → Inside (occurs (map place xs))
-        → Ok tt ≡ put_answer (meaning_of (map place xs) room count) (place x)
+    -- Where both questions got a yes, the entry is pushed, and its place waits.
+    pub put_pushed : (x : E) (waits most : ℕ) (r : Result (Unit {0}) E) → Inside (occurs (map place xs))
+        → waits ≡ waiting_below 128 (occurs (map place xs))
+        → most ≡ room
+        → Ok tt ≡ put_check (place x) waits most
         → is_ok r ≡ ltb (length xs) room
         → Pushed xs x r ys
-        → (r ≡ Ok tt) × Inside (occurs (map place ys))
+        → (r ≡ Ok tt) × (Ok tt ≡ put_answer (meaning_of (map place xs) room count) (place x))
+        × Inside (occurs (map place ys))
         × (meaning_of (map place ys) after count ≡ put_to (meaning_of (map place xs) room count) (place x))
-    put_pushed x (Ok tt) all asked free joined =
-        let told = taken_in (place x) (waiting_below 128 (occurs (map place xs))) room asked in
-        let moved = IsPermutation-map place (x ∷ xs) ys joined in (
-          refl,
-          joined_inside (place x) (map place xs) (map place ys) all told.0 moved,
-          ap (λ n. meaning_of (map place ys) n count) same ∙ (asked_accepted (map place xs) room count (place x) (map place ys) all (rw (waiting_occurs (map place xs) all) at asked) moved).1,
-        )
-    put_pushed x (Err y) all asked free joined =
-        let waits = waiting_places xs all in
-        let told = taken_in (place x) (waiting_below 128 (occurs (map place xs))) room asked in
-        absurd (grind (arith, told.1, waits, free))
+    put_pushed x waits most (Ok tt) all w m asked free joined =
+        let told = taken_in (place x) waits most asked in
+        let moved = IsPermutation-map place (x ∷ xs) ys joined in
+        let long : put_check (place x) waits most ≡ put_check (place x) (length (map place xs)) room = rw (w, m, waiting_occurs (map place xs) all) refl in
+        let put = asked_accepted (map place xs) room count (place x) (map place ys) all (asked ∙ long) moved in
+        (refl, put.0, joined_inside (place x) (map place xs) (map place ys) all told.0 moved, ap (λ n. meaning_of (map place ys) n count) same ∙ put.1)
+    put_pushed x waits most (Err y) all w m asked free joined =
+        let long = waiting_places xs all in
+        let told = taken_in (place x) waits most asked in
+        absurd (grind (arith, told.1, long, w, m, free))
 
     -- An entry leaves, and its place with it.
     pub took_popped : (x : E) (next : ℕ) → IsPermutation xs (x ∷ ys) → next ≡ counted count
