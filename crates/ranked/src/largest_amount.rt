@@ -70,6 +70,6 @@ impl<'e> Picker for LargestAmount<'e> {
     }
 
     fn waiting(&self) -> usize {
-        self.waiting.waiting()
+        self.waiting.len()
     }
 }

@@ -94,6 +94,6 @@ impl<'m, 'e> Picker for LowestMarker<'m, 'e> {
     }
 
     fn waiting(&self) -> usize {
-        self.waiting.waiting()
+        self.waiting.len()
     }
 }

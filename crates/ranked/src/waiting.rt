@@ -55,7 +55,7 @@ where
         ensures meaning { waiting_meaning self.new ≡ put_to (waiting_meaning self.old) entry.place }
         ensures entries { Joined (entries self.old) entry result (entries self.new) }
     {
-        check_put(entry.place, self.waiting(), self.room())?;
+        check_put(entry.place, self.len(), self.room())?;
         self.heap.push(entry).map_err(|_| PutFault::RoomFull)
     }
 
@@ -84,7 +84,7 @@ where
     }
 
     // How many places wait.
-    pub(crate) fn waiting(&self) -> usize
+    pub(crate) fn len(&self) -> usize
         ensures { result ≡ waiting (waiting_meaning self.now) }
     {
         self.heap.len()
