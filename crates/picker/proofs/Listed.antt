@@ -1,10 +1,12 @@
 -- The places of a list that wait: what inserting one and removing one do to the meaning.
-use Rattle.std.proofs.Common.{◌≡◌, ℕ, ◌<◌, ◌≤◌, cond, eqb, List, [], ◌∷◌, ◌++◌, length, Some, None, Ok, Err, sym, refl, ap, ◌∙◌, subst, ⊎_elim, arith}
+use Rattle.std.proofs.Common.{◌≡◌, ℕ, ◌<◌, ◌≤◌, cond, eqb, List, [], ◌∷◌, ◌++◌, length, Some, None, Ok, Err, sym, refl, ap, ◌∙◌, subst, ⊎_elim, arith, rules}
 use Rattle.std.specs.List.Sorted.{IsPermutation}
 use Rattle.std.proofs.lemmas.List.Sorted.{sum_by-IsPermutation, IsPermutation-refl, IsPermutation-sym, IsPermutation-to_front}
 use Rattle.std.proofs.lemmas.List.Sums.{sum_by-cons}
 use Rattle.std.proofs.lemmas.Bool.{cases_lt, lt-ltb, le-ltb, ne_eqb, eq-eqb}
 use Rattle.picker.specs.Meaning.{once, more, less, waiting_below, put_answer, put_to, counted, Took, fresh, Inside, occurs, meaning_of}
+use Rattle.picker.specs.Fault.{put_check}
+use Rattle.picker.specs.declared.fault.PutFault.{PutFault}
 use Rattle.picker.specs.declared.fault.PutFault.TheVariants.{PlaceUnknown, RoomFull}
 use Rattle.picker.proofs.Waiting.{waiting_nowhere, waiting_more}
 
@@ -49,6 +51,10 @@ left_inside p xs ys h s = rest_inside p ys (λ v o. ap (λ w. w v) (occurs_shuff
 pub empty_inside : (xs : List ℕ) → xs ≡ [] → Inside (occurs xs)
 empty_inside xs e v o = ap (λ l. occurs l v) e
 
+-- what both questions gave a yes to
+pub taken_in : (p waits room : ℕ) → Ok tt ≡ put_check p waits room → (p < 128) × (waits < room)
+taken_in p waits room e = grind (arith, rules)
+
 module _ (xs : List ℕ) (room count p : ℕ) where
   -- refused: the place is 128 or above
   pub put_unknown : 128 ≤ p → (Err PlaceUnknown ≡ put_answer (meaning_of xs room count) p) × (meaning_of xs room count ≡ put_to (meaning_of xs room count) p)
@@ -71,6 +77,23 @@ module _ (xs : List ℕ) (room count p : ℕ) where
       let b = lt-ltb (waiting_below 128 (occurs xs)) room (omega arith) in
       let w = occurs_shuffled (p ∷ xs) ys s ∙ occurs_cons p xs in
       (rw (a, b) refl, rw (a, b) (ap (λ u. record { waits = u; room = room; count = count }) w))
+
+  -- what the two questions answer is what putting the place means
+  asked : Inside (occurs xs) → put_check p (length xs) room ≡ put_answer (meaning_of xs room count) p
+  asked all = ap (λ n. put_check p n room) (sym (waiting_occurs xs all))
+
+  -- a question got a no, and the list stays
+  pub asked_refused : (f : PutFault) → Inside (occurs xs) → Err f ≡ put_check p (length xs) room
+      → (Err f ≡ put_answer (meaning_of xs room count) p) × (meaning_of xs room count ≡ put_to (meaning_of xs room count) p)
+  asked_refused f all e = let told = e ∙ asked all in (told, rw (sym told) refl)
+
+  -- no question got a no, and the place joins the list, wherever
+  pub asked_accepted : (ys : List ℕ) → Inside (occurs xs) → Ok tt ≡ put_check p (length xs) room → IsPermutation (p ∷ xs) ys
+      → (Ok tt ≡ put_answer (meaning_of xs room count) p) × (meaning_of ys room count ≡ put_to (meaning_of xs room count) p)
+  asked_accepted ys all e s =
+      let told = e ∙ asked all in
+      let w = occurs_shuffled (p ∷ xs) ys s ∙ occurs_cons p xs in
+      (told, rw (sym told) (ap (λ u. record { waits = u; room = room; count = count }) w))
 
   -- taken: the place leaves the list, wherever it was
   pub took_some : (ys : List ℕ) (next : ℕ) → IsPermutation xs (p ∷ ys) → next ≡ counted count
