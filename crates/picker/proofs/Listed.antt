@@ -27,7 +27,7 @@ first_inside : (x : ℕ) (xs : List ℕ) → Inside (occurs (x ∷ xs)) → x < 
 first_inside x xs h =
     ⊎_elim (λ l. l) (λ o. let none = h x o in let some = occurs_at x xs x in let one = once_here x in absurd (omega arith)) (cases_lt x 128)
 
-rest_inside : (x : ℕ) (xs : List ℕ) → Inside (occurs (x ∷ xs)) → Inside (occurs xs)
+pub rest_inside : (x : ℕ) (xs : List ℕ) → Inside (occurs (x ∷ xs)) → Inside (occurs xs)
 rest_inside x xs h v o = let none = h v o in let some = occurs_at x xs v in omega arith
 
 -- as many wait as the list has
@@ -35,6 +35,10 @@ pub waiting_occurs : (xs : List ℕ) → Inside (occurs xs) → waiting_below 12
 waiting_occurs [] h = waiting_nowhere 128
 waiting_occurs (x ∷ xs) h =
     ap (waiting_below 128) (occurs_cons x xs) ∙ waiting_more 128 x (occurs xs) (first_inside x xs h) ∙ (let t = waiting_occurs xs (rest_inside x xs h) in omega arith)
+
+-- no other place waits in another order
+pub shuffled_inside : (xs ys : List ℕ) → IsPermutation xs ys → Inside (occurs xs) → Inside (occurs ys)
+shuffled_inside xs ys s h v o = ap (λ w. w v) (occurs_shuffled xs ys s) ∙ h v o
 
 -- no other place waits after one joined, and after one left
 pub joined_inside : (p : ℕ) (xs ys : List ℕ) → Inside (occurs xs) → p < 128 → IsPermutation (p ∷ xs) ys → Inside (occurs ys)
