@@ -1,8 +1,7 @@
 // The count of places taken out since a picker was last emptied.
 use picker::drain::drain;
-use picker::newest_first::NewestFirst;
-use picker::oldest_first::OldestFirst;
 use picker::picker::Picker;
+use picker::queue::{NewestFirst, OldestFirst};
 use ranked::amount_entry::AmountEntry;
 use ranked::largest_amount::LargestAmount;
 use ranked::lowest_marker::LowestMarker;

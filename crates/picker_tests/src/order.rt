@@ -1,7 +1,6 @@
 // The order in which each picker gives places back. What is expected was reckoned by tools/pick_places.py.
-use picker::newest_first::NewestFirst;
-use picker::oldest_first::OldestFirst;
 use picker::picker::Picker;
+use picker::queue::{NewestFirst, OldestFirst};
 use ranked::amount_entry::AmountEntry;
 use ranked::largest_amount::LargestAmount;
 use ranked::lowest_marker::LowestMarker;

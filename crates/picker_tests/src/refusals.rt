@@ -1,8 +1,7 @@
 // Both questions, in their order, at the ends of what is allowed.
 use picker::fault::PutFault;
-use picker::newest_first::NewestFirst;
-use picker::oldest_first::OldestFirst;
 use picker::picker::Picker;
+use picker::queue::{NewestFirst, OldestFirst};
 use ranked::amount_entry::AmountEntry;
 use ranked::largest_amount::LargestAmount;
 use ranked::lowest_marker::LowestMarker;

@@ -7,9 +7,8 @@ ghost use Rattle.pickers.specs.All.{put_all};
 
 use anyhow::anyhow;
 use picker::fault::PutFault;
-use picker::newest_first::NewestFirst;
-use picker::oldest_first::OldestFirst;
 use picker::picker::Picker;
+use picker::queue::{NewestFirst, OldestFirst};
 use ranked::amount_entry::AmountEntry;
 use ranked::largest_amount::LargestAmount;
 use ranked::lowest_marker::LowestMarker;
