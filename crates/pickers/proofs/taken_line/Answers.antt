@@ -1,5 +1,4 @@
-use Rattle.std.proofs.Common.{ap, ◌∙◌, arith}
-use Rattle.picker.specs.Meaning.{Meaning}
+use Rattle.std.proofs.Common.{arith}
 use Rattle.picker.proofs.Drained.{took_one}
 use Rattle.pickers.proofs.taken_line.Goals as goal
 
@@ -7,6 +6,3 @@ pub loop-place-smaller : goal.loop-place-smaller
 loop-place-smaller g c =
     let before = g.P.Picker.meaning c.loop-place.picker in
     omega (arith, took_one before _ _ (g.P.Picker.lawful.inside c.loop-place.picker) c.in-Some.ensures.took)
-
-pub returns : goal.returns
-returns g c = let took = c.in_default.ensures.took in ap (λ (m : Meaning). m.waits) took.1 ∙ took.0
