@@ -3,7 +3,8 @@
 
 pub mod count;
 pub mod drain;
+mod end;
 pub mod fault;
-pub mod newest_first;
-pub mod oldest_first;
 pub mod picker;
+pub mod queue;
+mod ring;

@@ -7,9 +7,8 @@ ghost use Rattle.pickers.specs.All.{put_all};
 
 use anyhow::anyhow;
 use picker::fault::PutFault;
-use picker::newest_first::NewestFirst;
-use picker::oldest_first::OldestFirst;
 use picker::picker::Picker;
+use picker::queue::{NewestFirst, OldestFirst};
 use ranked::entry::{AmountEntry, MarkerEntry};
 use ranked::largest_amount::LargestAmount;
 use ranked::lowest_marker::LowestMarker;
@@ -35,8 +34,7 @@ const MARKERS: [u8; 8] = [3, 0, 2, 9, 9, 1, 0, 2];
 fn put_all<P: Picker>(picker: &mut P, places: &[(u8, u32)]) -> Result<(), PutFault>
     ensures { OnOk result (P.meaning picker.new ≡ put_all (P.meaning picker.old) places.now) }
 {
-    for item in places {
-        let (place, amount) = *item;
+    for &(place, amount) in places {
         picker.put(place, amount)?;
     }
     Ok(())
@@ -56,9 +54,7 @@ fn taken_line<P: Picker>(heap: Global, name: &str, picker: &mut P) -> Result<Str
 
 // The line of one picker, in which nothing waits yet.
 fn show<P: Picker>(rt: &HostRuntime, name: &str, picker: &mut P) -> anyhow::Result<()> {
-    if put_all(picker, &PLACES).is_err() {
-        return Err(anyhow!("a place was refused"));
-    }
+    put_all(picker, &PLACES).map_err(|_| anyhow!("a place was refused"))?;
     rt.println(taken_line(rt.alloc(), name, picker)?)?;
     Ok(())
 }
