@@ -2,4 +2,4 @@
 pub mod Fault
 pub mod Meaning
 pub mod Rows
-pub mod Queues
+pub mod Queue

@@ -26,7 +26,7 @@ pub type NewestFirst = Queue<Newest>;
 impl<E: End> Queue<E> {
     ghost use Rattle.std.specs.Prelude.{◌≡◌, []};
     ghost use Rattle.picker.specs.Meaning.{fresh};
-    ghost use Rattle.picker.specs.Queues.{queue, queue_meaning};
+    ghost use Rattle.picker.specs.Queue.{queue, queue_meaning};
 
     // A picker in which nothing waits.
     pub fn new() -> Queue<E>
@@ -45,7 +45,7 @@ impl<E: End> Picker for Queue<E> {
     ghost use Rattle.std.specs.Prelude.{◌≡◌, [], is_ok, if◌then◌else◌};
     ghost use Rattle.picker.specs.Meaning.{fresh, put_answer, put_to, Took};
     ghost use Rattle.picker.specs.Rows.{head_of, tail_of};
-    ghost use Rattle.picker.specs.Queues.{queue, queue_meaning};
+    ghost use Rattle.picker.specs.Queue.{queue, queue_meaning};
 
     ghost meaning = { queue_meaning };
 
@@ -63,7 +63,8 @@ impl<E: End> Picker for Queue<E> {
     fn put(&mut self, place: u8, _amount: u32) -> Result<(), PutFault>
         ensures answer { result ≡ put_answer (queue_meaning self.old) place }
         ensures meaning { queue_meaning self.new ≡ put_to (queue_meaning self.old) place }
-        ensures queue { queue self.new ≡ (if is_ok result then E.joined (queue self.old) place else queue self.old) }
+        ensures queue { queue self.new
+            ≡ (if is_ok result then E.joined (queue self.old) place else queue self.old) }
     {
         check_put(place, self.row.len(), ROOM)?;
         self.row.push_back(place);

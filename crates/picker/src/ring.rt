@@ -7,7 +7,8 @@ use std::marker::Model;
 // How many places a row may have.
 pub const ROOM: usize = 128;
 
-// A row of at most 128 places, in a ring: it begins at index `first`, and goes on at index 0 after index 127.
+// A row of at most 128 places, in a ring: it begins at index `first`, and goes on at index 0 after index 127. It has
+// memory of its own, where the queues of the libraries allocate.
 #[derive(Drop)]
 pub struct Ring {
     slots: [u8; ROOM],

@@ -1,4 +1,5 @@
-// What the examples put, and the entries that they lend.
+// What the examples put, and the entries that they lend. The program `pickers` has the same places and markers in a
+// text of its own, which reads alone; a crate to share them would be no plainer.
 use ranked::entry::{AmountEntry, MarkerEntry};
 use std::cmp::Reverse;
 
