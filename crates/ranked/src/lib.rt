@@ -3,5 +3,6 @@
 
 pub mod entry;
 pub mod largest_amount;
+pub mod laws;
 pub mod lowest_marker;
 mod waiting;
