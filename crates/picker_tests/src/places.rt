@@ -1,7 +1,7 @@
 // What the examples put, and the entries that they lend. The program `pickers` has the same places and markers in a
 // text of its own, which reads alone; a crate to share them would be no plainer.
-use ranked::amount_entry::AmountEntry;
-use ranked::marker_entry::MarkerEntry;
+use ranked::entry::{AmountEntry, MarkerEntry};
+use std::cmp::Reverse;
 
 // Places with their amounts, in the order in which they are put: some wait twice, and some amounts are equal.
 pub const PUT: [(u8, u32); 8] = [
@@ -19,11 +19,11 @@ pub const PUT: [(u8, u32); 8] = [
 pub const MARKERS: [u8; 8] = [3, 0, 2, 9, 9, 1, 0, 2];
 
 pub const NO_MARK: MarkerEntry = MarkerEntry {
-    marker: 0,
+    rank: 0,
     place: 0,
 };
 
 pub const NO_AMOUNT: AmountEntry = AmountEntry {
-    amount: 0,
+    rank: Reverse(0),
     place: 0,
 };

@@ -2,19 +2,19 @@
 use picker::fault::PutFault;
 use picker::picker::Picker;
 use picker::queue::{NewestFirst, OldestFirst};
-use ranked::amount_entry::AmountEntry;
+use ranked::entry::{AmountEntry, MarkerEntry};
 use ranked::largest_amount::LargestAmount;
 use ranked::lowest_marker::LowestMarker;
-use ranked::marker_entry::MarkerEntry;
+use std::cmp::Reverse;
 use std::process::Abort;
 
 const NO_MARK: MarkerEntry = MarkerEntry {
-    marker: 7,
+    rank: 7,
     place: 200,
 };
 
 const NO_AMOUNT: AmountEntry = AmountEntry {
-    amount: 9,
+    rank: Reverse(9),
     place: 200,
 };
 

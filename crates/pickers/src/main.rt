@@ -9,11 +9,11 @@ use anyhow::anyhow;
 use picker::fault::PutFault;
 use picker::picker::Picker;
 use picker::queue::{NewestFirst, OldestFirst};
-use ranked::amount_entry::AmountEntry;
+use ranked::entry::{AmountEntry, MarkerEntry};
 use ranked::largest_amount::LargestAmount;
 use ranked::lowest_marker::LowestMarker;
-use ranked::marker_entry::MarkerEntry;
 use std::alloc::{AllocError, Global};
+use std::cmp::Reverse;
 
 // Places with their amounts, in the order in which they are put: some wait twice, and some amounts are equal.
 const PLACES: [(u8, u32); 8] = [
@@ -63,7 +63,7 @@ fn run(rt: &HostRuntime) -> anyhow::Result<()> {
     show(rt, "oldest first", &mut OldestFirst::new())?;
     show(rt, "newest first", &mut NewestFirst::new())?;
     let mut marks = [MarkerEntry {
-        marker: 0,
+        rank: 0,
         place: 0,
     }; 8];
     show(
@@ -72,7 +72,7 @@ fn run(rt: &HostRuntime) -> anyhow::Result<()> {
         &mut LowestMarker::new(&MARKERS, &mut marks),
     )?;
     let mut amounts = [AmountEntry {
-        amount: 0,
+        rank: Reverse(0),
         place: 0,
     }; 8];
     show(rt, "largest amount", &mut LargestAmount::new(&mut amounts))
