@@ -18,10 +18,7 @@ pub const PUT: [(u8, u32); 8] = [
 // The turn markers of places 0 to 7; place 9 has none.
 pub const MARKERS: [u8; 8] = [3, 0, 2, 9, 9, 1, 0, 2];
 
-pub const NO_MARK: MarkerEntry = MarkerEntry {
-    rank: 0,
-    place: 0,
-};
+pub const NO_MARK: MarkerEntry = MarkerEntry { rank: 0, place: 0 };
 
 pub const NO_AMOUNT: AmountEntry = AmountEntry {
     rank: Reverse(0),

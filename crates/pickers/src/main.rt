@@ -62,10 +62,7 @@ fn show<P: Picker>(rt: &HostRuntime, name: &str, picker: &mut P) -> anyhow::Resu
 fn run(rt: &HostRuntime) -> anyhow::Result<()> {
     show(rt, "oldest first", &mut OldestFirst::new())?;
     show(rt, "newest first", &mut NewestFirst::new())?;
-    let mut marks = [MarkerEntry {
-        rank: 0,
-        place: 0,
-    }; 8];
+    let mut marks = [MarkerEntry { rank: 0, place: 0 }; 8];
     show(
         rt,
         "lowest marker",
