@@ -1,12 +1,10 @@
 -- The places of a list that wait: what inserting one and removing one do to the meaning.
-use Rattle.std.proofs.Common.{◌≡◌, ℕ, ◌<◌, ◌≤◌, cond, eqb, List, [], ◌∷◌, ◌++◌, length, Some, None, Ok, Err, sym, refl, ap, ◌∙◌, subst, arith, rules}
+use Rattle.std.proofs.Common.{◌≡◌, ℕ, ◌<◌, cond, eqb, List, [], ◌∷◌, ◌++◌, length, Some, Ok, sym, ap, ◌∙◌, subst, arith, rules}
 use Rattle.std.specs.List.Sorted.{IsPermutation}
-use Rattle.std.proofs.lemmas.Bool.{le-ltb, lt-ltb}
 use Rattle.std.proofs.lemmas.List.Sorted.{sum_by-IsPermutation, IsPermutation-sym, IsPermutation-to_front}
 use Rattle.std.proofs.lemmas.List.Sums.{sum_by-cons}
 use Rattle.picker.specs.Meaning.{more, less, waiting_below, put_answer, put_to, counted, Took, Inside, occurs, meaning_of}
 use Rattle.picker.specs.Fault.{put_check}
-use Rattle.picker.specs.declared.fault.PutFault.TheVariants.{RoomFull}
 use Rattle.picker.proofs.Waiting.{waiting_nowhere, waiting_more}
 
 occurs_at : (x : ℕ) (xs : List ℕ) (v : ℕ) → occurs (x ∷ xs) v ≡ more x (occurs xs) v
@@ -41,22 +39,11 @@ joined_inside p xs ys h b s = shuffled_inside (p ∷ xs) ys s (λ v o. grind (ar
 pub left_inside : (p : ℕ) (xs ys : List ℕ) → Inside (occurs xs) → IsPermutation xs (p ∷ ys) → Inside (occurs ys)
 left_inside p xs ys h s = rest_inside p ys (shuffled_inside xs (p ∷ ys) s h)
 
-pub empty_inside : (xs : List ℕ) → xs ≡ [] → Inside (occurs xs)
-empty_inside xs e v o = ap (λ l. occurs l v) e
-
 -- what both questions gave a yes to
 pub taken_in : (p waits room : ℕ) → Ok tt ≡ put_check p waits room → (p < 128) × (waits < room)
 taken_in p waits room e = grind (arith, rules)
 
 module _ (xs : List ℕ) (room count p : ℕ) where
-  -- refused: as many wait as there is room for
-  pub put_full : Inside (occurs xs) → p < 128 → room ≤ length xs → (Err RoomFull ≡ put_answer (meaning_of xs room count) p) × (meaning_of xs room count ≡ put_to (meaning_of xs room count) p)
-  put_full all h full =
-      let a = lt-ltb p 128 h in
-      let n = waiting_occurs xs all in
-      let b = le-ltb (waiting_below 128 (occurs xs)) room (omega arith) in
-      (rw (a, b) refl, rw (a, b) refl)
-
   -- no question got a no, and the place joins the list, wherever
   pub asked_accepted : (ys : List ℕ) → Inside (occurs xs) → Ok tt ≡ put_check p (length xs) room → IsPermutation (p ∷ xs) ys
       → (Ok tt ≡ put_answer (meaning_of xs room count) p) × (meaning_of ys room count ≡ put_to (meaning_of xs room count) p)
@@ -64,11 +51,6 @@ module _ (xs : List ℕ) (room count p : ℕ) where
       let told : Ok tt ≡ put_answer (meaning_of xs room count) p = e ∙ ap (λ n. put_check p n room) (sym (waiting_occurs xs all)) in
       let w = occurs_shuffled (p ∷ xs) ys s ∙ occurs_cons p xs in
       (told, rw (sym told) (ap (λ u. record { waits = u; room = room; count = count }) w))
-
-  -- accepted: the place joins the list, wherever
-  pub put_accepted : (ys : List ℕ) → Inside (occurs xs) → p < 128 → length xs < room → IsPermutation (p ∷ xs) ys
-      → (Ok tt ≡ put_answer (meaning_of xs room count) p) × (meaning_of ys room count ≡ put_to (meaning_of xs room count) p)
-  put_accepted ys all h free s = let a = lt-ltb p 128 h in let b = lt-ltb (length xs) room free in asked_accepted ys all (rw (a, b) refl) s
 
   -- taken: the place leaves the list, wherever it was
   pub took_some : (ys : List ℕ) (next : ℕ) → IsPermutation xs (p ∷ ys) → next ≡ counted count
@@ -82,7 +64,3 @@ module _ (xs : List ℕ) (room count p : ℕ) where
 -- a place joins at the end of a list
 pub joined_last : (xs ys : List ℕ) (p : ℕ) → ys ≡ xs ++ p ∷ [] → IsPermutation (p ∷ xs) ys
 joined_last xs ys p e = subst (IsPermutation (p ∷ xs)) (sym e) (IsPermutation-sym _ _ (IsPermutation-to_front xs p))
-
--- none is taken where the list is empty
-pub took_none : (xs : List ℕ) (room count : ℕ) → xs ≡ [] → Took (meaning_of xs room count) None (meaning_of xs room count)
-took_none xs room count e = (ap occurs e, refl)

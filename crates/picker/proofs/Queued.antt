@@ -4,7 +4,7 @@ use Rattle.std.specs.List.Sorted.{IsPermutation}
 use Rattle.std.proofs.lemmas.List.Sorted.{IsPermutation-sym, IsPermutation-trans, IsPermutation-cons, length_permutation}
 use Rattle.picker.specs.Meaning.{counted, Took, Inside, occurs, meaning_of}
 use Rattle.picker.specs.Rows.{head_of, tail_of}
-use Rattle.picker.proofs.Listed.{shuffled_inside, rest_inside, took_none, took_some}
+use Rattle.picker.proofs.Listed.{shuffled_inside, rest_inside, took_some}
 
 none : (xs : List ℕ) → length xs ≡ 0 → xs ≡ []
 none [] e = refl
@@ -49,7 +49,7 @@ module _ (order : List ℕ → List ℕ) (same : (xs : List ℕ) → IsPermutati
           let no = headless (order xs) e in
           let before = none_there xs no in
           let after = none_there ys (rest ∙ ap tail_of no) in
-          ((took_none xs room count before).0, ap (λ l. meaning_of l room count) (after ∙ sym before))
+          (ap occurs before, ap (λ l. meaning_of l room count) (after ∙ sym before))
 
       -- the next was taken
       pub took_next : (p next : ℕ) → Some p ≡ head_of (order xs) → next ≡ counted count → Took (meaning_of xs room count) (Some p) (meaning_of ys room next)
