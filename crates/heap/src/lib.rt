@@ -4,3 +4,4 @@
 pub mod entry;
 pub mod heap;
 pub mod laws;
+mod sifting;

@@ -1,21 +1,18 @@
 -- What taking one place after another comes to.
-use Rattle.std.proofs.Common.{◌≡◌, ℕ, ◌+◌, ◌<◌, ◌≤◌, min, Some, None, ap, ◌∙◌, ⊎_elim, arith}
-use Rattle.std.proofs.lemmas.Bool.{cases_lt}
-use Rattle.picker.specs.Meaning.{Meaning, waiting, waiting_below, Took, drained}
+use Rattle.std.proofs.Common.{◌≡◌, ℕ, ◌+◌, ◌<◌, ◌≤◌, min, Some, None, ap, ◌∙◌, arith}
+use Rattle.picker.specs.Meaning.{Meaning, waiting, waiting_below, Took, Inside, drained}
 use Rattle.picker.proofs.Waiting.{waiting_nowhere, waiting_less}
 
--- where no place at or above 128 waits, a place that waits is below it
-pub below_128 : (m : Meaning) (p : ℕ) → ((v : ℕ) → 128 ≤ v → m.waits v ≡ 0) → 0 < m.waits p → p < 128
-below_128 m p inside h = ⊎_elim (λ l. l) (λ o. let z = inside p o in absurd (omega arith)) (cases_lt p 128)
-
 -- one less waits
-pub took_one : (m n : Meaning) (p : ℕ) → p < 128 → Took m (Some p) n → waiting n + 1 ≡ waiting m
-took_one m n p b t = let e = ap waiting t.1 in let l = waiting_less 128 p m.waits b t.0 in omega arith
+pub took_one : (m n : Meaning) (p : ℕ) → Inside m.waits → Took m (Some p) n → waiting n + 1 ≡ waiting m
+took_one m n p inside t =
+    let known : p < 128 = grind (arith, inside p, t.0) in
+    omega (arith, ap waiting t.1, waiting_less 128 p m.waits known t.0)
 
 -- what is left in the end is the same before and after
-pub drained_again : (m n : Meaning) (p : ℕ) → p < 128 → Took m (Some p) n → drained n ≡ drained m
-drained_again m n p b t =
-    let l = took_one m n p b t in
+pub drained_again : (m n : Meaning) (p : ℕ) → Inside m.waits → Took m (Some p) n → drained n ≡ drained m
+drained_again m n p inside t =
+    let l = took_one m n p inside t in
     let c = ap (λ (k : Meaning). k.count) t.1 in
     let same : min (n.count + waiting n) 65535 ≡ min (m.count + waiting m) 65535 = omega arith in
     let room = ap (λ (k : Meaning). k.room) t.1 in

@@ -2,5 +2,5 @@
 pub mod Waiting
 pub mod Listed
 pub mod Rings
-pub mod Piles
+pub mod Queued
 pub mod Drained

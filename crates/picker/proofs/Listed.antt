@@ -1,11 +1,10 @@
 -- The places of a list that wait: what inserting one and removing one do to the meaning.
-use Rattle.std.proofs.Common.{◌≡◌, ℕ, ◌<◌, ◌≤◌, cond, eqb, List, [], ◌∷◌, ◌++◌, length, Some, None, Ok, Err, sym, refl, ap, ◌∙◌, subst, ⊎_elim, arith}
+use Rattle.std.proofs.Common.{◌≡◌, ℕ, ◌<◌, cond, eqb, List, [], ◌∷◌, ◌++◌, length, Some, Ok, sym, ap, ◌∙◌, subst, arith, rules}
 use Rattle.std.specs.List.Sorted.{IsPermutation}
-use Rattle.std.proofs.lemmas.List.Sorted.{sum_by-IsPermutation, IsPermutation-refl, IsPermutation-sym, IsPermutation-to_front}
+use Rattle.std.proofs.lemmas.List.Sorted.{sum_by-IsPermutation, IsPermutation-sym, IsPermutation-to_front}
 use Rattle.std.proofs.lemmas.List.Sums.{sum_by-cons}
-use Rattle.std.proofs.lemmas.Bool.{cases_lt, lt-ltb, le-ltb, ne_eqb, eq-eqb}
-use Rattle.picker.specs.Meaning.{once, more, less, waiting_below, put_answer, put_to, counted, Took, fresh, Inside, occurs, meaning_of}
-use Rattle.picker.specs.declared.fault.PutFault.TheVariants.{PlaceUnknown, RoomFull}
+use Rattle.picker.specs.Meaning.{more, less, waiting_below, put_answer, put_to, counted, Took, Inside, occurs, meaning_of}
+use Rattle.picker.specs.Fault.{put_check}
 use Rattle.picker.proofs.Waiting.{waiting_nowhere, waiting_more}
 
 occurs_at : (x : ℕ) (xs : List ℕ) (v : ℕ) → occurs (x ∷ xs) v ≡ more x (occurs xs) v
@@ -17,16 +16,12 @@ occurs_cons x xs = λ i v. occurs_at x xs v i
 occurs_shuffled : (xs ys : List ℕ) → IsPermutation xs ys → occurs ys ≡ occurs xs
 occurs_shuffled xs ys s = λ i v. sum_by-IsPermutation (λ y. cond (eqb v y) 1 0) xs ys s i
 
-once_here : (p : ℕ) → once p p ≡ 1
-once_here p = ap (λ b. cond b 1 0) (eq-eqb p p refl)
-
 -- all places of a list are below 128 where no other waits
 first_inside : (x : ℕ) (xs : List ℕ) → Inside (occurs (x ∷ xs)) → x < 128
-first_inside x xs h =
-    ⊎_elim (λ l. l) (λ o. let none = h x o in let some = occurs_at x xs x in let one = once_here x in absurd (omega arith)) (cases_lt x 128)
+first_inside x xs h = grind (arith, h x, occurs_at x xs x)
 
-rest_inside : (x : ℕ) (xs : List ℕ) → Inside (occurs (x ∷ xs)) → Inside (occurs xs)
-rest_inside x xs h v o = let none = h v o in let some = occurs_at x xs v in omega arith
+pub rest_inside : (x : ℕ) (xs : List ℕ) → Inside (occurs (x ∷ xs)) → Inside (occurs xs)
+rest_inside x xs h v o = omega (arith, h v o, occurs_at x xs v)
 
 -- as many wait as the list has
 pub waiting_occurs : (xs : List ℕ) → Inside (occurs xs) → waiting_below 128 (occurs xs) ≡ length xs
@@ -34,66 +29,38 @@ waiting_occurs [] h = waiting_nowhere 128
 waiting_occurs (x ∷ xs) h =
     ap (waiting_below 128) (occurs_cons x xs) ∙ waiting_more 128 x (occurs xs) (first_inside x xs h) ∙ (let t = waiting_occurs xs (rest_inside x xs h) in omega arith)
 
--- no other place waits after one joined, and after one left
+-- no other place waits in another order, after one joined, and after one left
+pub shuffled_inside : (xs ys : List ℕ) → IsPermutation xs ys → Inside (occurs xs) → Inside (occurs ys)
+shuffled_inside xs ys s = subst Inside (sym (occurs_shuffled xs ys s))
+
 pub joined_inside : (p : ℕ) (xs ys : List ℕ) → Inside (occurs xs) → p < 128 → IsPermutation (p ∷ xs) ys → Inside (occurs ys)
-joined_inside p xs ys h b s v o =
-    let none = h v o in
-    let there = ap (λ w. w v) (occurs_shuffled (p ∷ xs) ys s) in
-    let some = occurs_at p xs v in
-    let other : once p v ≡ 0 = ap (λ b. cond b 1 0) (ne_eqb v p (λ e. omega arith)) in
-    omega arith
+joined_inside p xs ys h b s = shuffled_inside (p ∷ xs) ys s (λ v o. grind (arith, h v o, occurs_at p xs v))
 
 pub left_inside : (p : ℕ) (xs ys : List ℕ) → Inside (occurs xs) → IsPermutation xs (p ∷ ys) → Inside (occurs ys)
-left_inside p xs ys h s = rest_inside p ys (λ v o. ap (λ w. w v) (occurs_shuffled xs (p ∷ ys) s) ∙ h v o)
+left_inside p xs ys h s = rest_inside p ys (shuffled_inside xs (p ∷ ys) s h)
 
-pub empty_inside : (xs : List ℕ) → xs ≡ [] → Inside (occurs xs)
-empty_inside xs e v o = ap (λ l. occurs l v) e
+-- what both questions gave a yes to
+pub taken_in : (p waits room : ℕ) → Ok tt ≡ put_check p waits room → (p < 128) × (waits < room)
+taken_in p waits room e = grind (arith, rules)
 
 module _ (xs : List ℕ) (room count p : ℕ) where
-  -- refused: the place is 128 or above
-  pub put_unknown : 128 ≤ p → (Err PlaceUnknown ≡ put_answer (meaning_of xs room count) p) × (meaning_of xs room count ≡ put_to (meaning_of xs room count) p)
-  put_unknown h = let e = le-ltb p 128 h in (rw e refl, rw e refl)
-
-  -- refused: as many wait as there is room for
-  pub put_full : Inside (occurs xs) → p < 128 → room ≤ length xs → (Err RoomFull ≡ put_answer (meaning_of xs room count) p) × (meaning_of xs room count ≡ put_to (meaning_of xs room count) p)
-  put_full all h full =
-      let a = lt-ltb p 128 h in
-      let n = waiting_occurs xs all in
-      let b = le-ltb (waiting_below 128 (occurs xs)) room (omega arith) in
-      (rw (a, b) refl, rw (a, b) refl)
-
-  -- accepted: the place joins the list, wherever
-  pub put_accepted : (ys : List ℕ) → Inside (occurs xs) → p < 128 → length xs < room → IsPermutation (p ∷ xs) ys
+  -- no question got a no, and the place joins the list, wherever
+  pub asked_accepted : (ys : List ℕ) → Inside (occurs xs) → Ok tt ≡ put_check p (length xs) room → IsPermutation (p ∷ xs) ys
       → (Ok tt ≡ put_answer (meaning_of xs room count) p) × (meaning_of ys room count ≡ put_to (meaning_of xs room count) p)
-  put_accepted ys all h free s =
-      let a = lt-ltb p 128 h in
-      let n = waiting_occurs xs all in
-      let b = lt-ltb (waiting_below 128 (occurs xs)) room (omega arith) in
+  asked_accepted ys all e s =
+      let told : Ok tt ≡ put_answer (meaning_of xs room count) p = e ∙ ap (λ n. put_check p n room) (sym (waiting_occurs xs all)) in
       let w = occurs_shuffled (p ∷ xs) ys s ∙ occurs_cons p xs in
-      (rw (a, b) refl, rw (a, b) (ap (λ u. record { waits = u; room = room; count = count }) w))
+      (told, rw (sym told) (ap (λ u. record { waits = u; room = room; count = count }) w))
 
   -- taken: the place leaves the list, wherever it was
   pub took_some : (ys : List ℕ) (next : ℕ) → IsPermutation xs (p ∷ ys) → next ≡ counted count
       → Took (meaning_of xs room count) (Some p) (meaning_of ys room next)
   took_some ys next s n =
       let w : occurs xs ≡ more p (occurs ys) = sym (occurs_shuffled xs (p ∷ ys) s) ∙ occurs_cons p ys in
-      let here = ap (λ u. u p) w in
-      let one = once_here p in
-      let left : (v : ℕ) → occurs ys v ≡ less p (occurs xs) v = λ v. let there = ap (λ u. u v) w in omega arith in
+      let left : (v : ℕ) → occurs ys v ≡ less p (occurs xs) v = λ v. omega (arith, ap (λ u. u v) w) in
       let rest : occurs ys ≡ less p (occurs xs) = λ i v. left v i in
-      (omega arith, rw n (ap (λ u. record { waits = u; room = room; count = counted count }) rest))
+      (grind (arith, ap (λ u. u p) w), rw n (ap (λ u. record { waits = u; room = room; count = counted count }) rest))
 
--- at the end of the list, or at its start
+-- a place joins at the end of a list
 pub joined_last : (xs ys : List ℕ) (p : ℕ) → ys ≡ xs ++ p ∷ [] → IsPermutation (p ∷ xs) ys
 joined_last xs ys p e = subst (IsPermutation (p ∷ xs)) (sym e) (IsPermutation-sym _ _ (IsPermutation-to_front xs p))
-
-pub unmoved : (xs ys : List ℕ) → ys ≡ xs → IsPermutation xs ys
-unmoved xs ys e = subst (IsPermutation xs) (sym e) (IsPermutation-refl xs)
-
--- none is taken where the list is empty
-pub took_none : (xs : List ℕ) (room count : ℕ) → xs ≡ [] → Took (meaning_of xs room count) None (meaning_of xs room count)
-took_none xs room count e = (ap occurs e, refl)
-
--- an empty list and count 0: as made
-pub as_made : (xs : List ℕ) (room : ℕ) → xs ≡ [] → meaning_of xs room 0 ≡ fresh room
-as_made xs room e = ap (λ l. meaning_of l room 0) e

@@ -1,5 +1,5 @@
 -- The specifications of pickers.
 pub mod Fault
 pub mod Meaning
-pub mod Arrays
-pub mod Queues
+pub mod Rows
+pub mod Queue

@@ -16,9 +16,9 @@
 --   Lawful          no place at or above 128 waits, and the count stops
 --   occurs          how often each place stands in a list
 --   meaning_of      the meaning of a list of places that wait
-use Rattle.std.specs.Prelude.{◌≡◌, ℕ, zero, suc, ◌+◌, ◌-◌, ◌<◌, ◌≤◌, min, cond, List, is_ok, Some, None, Ok, Err, count_by, Option, Result, ◌==◌, nat_eq, nat_lt}
+use Rattle.std.specs.Prelude.{◌≡◌, ℕ, zero, suc, ◌+◌, ◌-◌, ◌<◌, ◌≤◌, min, cond, List, is_ok, Some, None, count_by, Option, Result, ◌==◌, nat_eq}
 use Rattle.picker.specs.declared.fault.PutFault.{PutFault}
-use Rattle.picker.specs.declared.fault.PutFault.TheVariants.{PlaceUnknown, RoomFull}
+use Rattle.picker.specs.Fault.{put_check}
 
 -- How often each place waits.
 abbrev pub Waits : Type 0
@@ -58,7 +58,7 @@ waiting m = waiting_below 128 m.waits
 
 -- The first question that gets a no: is the place below 128? Do fewer wait than the room?
 abbrev pub put_answer : Meaning → ℕ → Result (Unit {0}) PutFault
-put_answer m p = cond (nat_lt p 128) (cond (nat_lt (waiting m) m.room) (Ok tt) (Err RoomFull)) (Err PlaceUnknown)
+put_answer m p = put_check p (waiting m) m.room
 
 -- What putting place p leaves: accepted, it waits once more and nothing else changes; refused, nothing changes.
 abbrev pub put_to : Meaning → ℕ → Meaning

@@ -1,6 +1,8 @@
 // Why a place is not taken in.
 ghost use Rattle.std.specs.Prelude.{◌≡◌};
-ghost use Rattle.picker.specs.Fault.{put_number};
+ghost use Rattle.picker.specs.Fault.{put_number, put_check};
+
+use crate::picker::PLACES;
 
 // The first question about a place that got a no.
 #[derive(Clone, Copy, PartialEq, Eq, Debug)]
@@ -20,5 +22,18 @@ impl PutFault {
             PutFault::PlaceUnknown => 41,
             PutFault::RoomFull => 42,
         }
+    }
+}
+
+// Puts the two questions about a place, where so many places wait and there is so much room.
+pub fn check_put(place: u8, waiting: usize, room: usize) -> Result<(), PutFault>
+    ensures { result ≡ put_check place waiting room }
+{
+    if place >= PLACES {
+        Err(PutFault::PlaceUnknown)
+    } else if waiting >= room {
+        Err(PutFault::RoomFull)
+    } else {
+        Ok(())
     }
 }

@@ -1,12 +1,10 @@
 // The count of places taken out since a picker was last emptied.
+use crate::places::{NO_AMOUNT, NO_MARK};
 use picker::drain::drain;
-use picker::newest_first::NewestFirst;
-use picker::oldest_first::OldestFirst;
 use picker::picker::Picker;
-use ranked::amount_entry::AmountEntry;
+use picker::queue::{NewestFirst, OldestFirst};
 use ranked::largest_amount::LargestAmount;
 use ranked::lowest_marker::LowestMarker;
-use ranked::marker_entry::MarkerEntry;
 use std::process::Abort;
 
 // Puts and takes a place so often.
@@ -47,30 +45,22 @@ fn stops<P: Picker>(rt: &impl Abort, picker: &mut P) {
     assert_eq!(rt; drain(picker), 0);
 }
 
+fn counts_and_stops<P: Picker>(rt: &impl Abort, picker: &mut P) {
+    counts(rt, picker);
+    stops(rt, picker);
+}
+
 #[test]
 fn queues(rt: HostRuntime) {
-    let mut oldest = OldestFirst::new();
-    counts(&rt, &mut oldest);
-    stops(&rt, &mut oldest);
-    let mut newest = NewestFirst::new();
-    counts(&rt, &mut newest);
-    stops(&rt, &mut newest);
+    counts_and_stops(&rt, &mut OldestFirst::new());
+    counts_and_stops(&rt, &mut NewestFirst::new());
 }
 
 #[test]
 fn by_rank(rt: HostRuntime) {
-    let mut marks = [MarkerEntry {
-        marker: 0,
-        place: 0,
-    }; 4];
+    let mut marks = [NO_MARK; 4];
     let mut lowest = LowestMarker::new(&[9, 9, 9, 9, 9, 9, 9], &mut marks);
-    counts(&rt, &mut lowest);
-    stops(&rt, &mut lowest);
-    let mut amounts = [AmountEntry {
-        amount: 0,
-        place: 0,
-    }; 4];
-    let mut largest = LargestAmount::new(&mut amounts);
-    counts(&rt, &mut largest);
-    stops(&rt, &mut largest);
+    counts_and_stops(&rt, &mut lowest);
+    let mut amounts = [NO_AMOUNT; 4];
+    counts_and_stops(&rt, &mut LargestAmount::new(&mut amounts));
 }

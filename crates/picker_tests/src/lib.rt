@@ -6,4 +6,6 @@ mod counting;
 #[cfg(test)]
 mod order;
 #[cfg(test)]
+mod places;
+#[cfg(test)]
 mod refusals;

@@ -1,37 +1,10 @@
 // The order in which each picker gives places back. What is expected was reckoned by tools/pick_places.py.
-use picker::newest_first::NewestFirst;
-use picker::oldest_first::OldestFirst;
+use crate::places::{MARKERS, NO_AMOUNT, NO_MARK, PUT};
 use picker::picker::Picker;
-use ranked::amount_entry::AmountEntry;
+use picker::queue::{NewestFirst, OldestFirst};
 use ranked::largest_amount::LargestAmount;
 use ranked::lowest_marker::LowestMarker;
-use ranked::marker_entry::MarkerEntry;
 use std::process::Abort;
-
-// Places with their amounts, in the order in which they are put: some wait twice, and some amounts are equal.
-const PUT: [(u8, u32); 8] = [
-    (5, 30),
-    (2, 10),
-    (9, 30),
-    (2, 40),
-    (7, 10),
-    (5, 30),
-    (0, 0),
-    (9, 5),
-];
-
-// The turn markers of places 0 to 7; place 9 has none.
-const MARKERS: [u8; 8] = [3, 0, 2, 9, 9, 1, 0, 2];
-
-const NO_MARK: MarkerEntry = MarkerEntry {
-    marker: 0,
-    place: 0,
-};
-
-const NO_AMOUNT: AmountEntry = AmountEntry {
-    amount: 0,
-    place: 0,
-};
 
 fn put_all<P: Picker>(rt: &impl Abort, picker: &mut P) {
     for (place, amount) in PUT {
@@ -72,51 +45,27 @@ fn largest_amount(rt: HostRuntime) {
     gives_back(&rt, &mut picker, [2, 5, 5, 9, 2, 7, 9, 0]);
 }
 
-// How many places were taken, and their sum, each weighed by when it was taken.
-#[derive(Drop)]
-struct Taken {
-    turn: u64,
-    sum: u64,
-}
-
-impl Taken {
-    fn add(&mut self, place: Option<u8>) -> bool {
-        let Some(place) = place else {
-            return false;
-        };
-        self.turn = self.turn.saturating_add(1);
-        self.sum = self
-            .sum
-            .saturating_add(self.turn.saturating_mul(place as u64));
-        true
-    }
-}
-
 fn put_next<P: Picker>(rt: &impl Abort, picker: &mut P, state: u32) -> u32 {
     let next = state.wrapping_mul(75).wrapping_add(74) % 65537;
     assert!(rt; picker.put((next % 11) as u8, next / 11 % 7).is_ok());
     next
 }
 
-// Two puts and a take in turn, 60 times.
-fn in_turn<P: Picker>(rt: &impl Abort, picker: &mut P, taken: &mut Taken) {
-    let mut state = 1;
-    for _ in 0..60 {
-        state = put_next(rt, picker, state);
-        state = put_next(rt, picker, state);
-        assert!(rt; taken.add(picker.take()));
-    }
-}
-
-// Then the 60 that are left are taken.
+// Two puts and a take in turn, 60 times; then the 60 places that are left are taken. The answer is the sum of what was
+// taken, each place weighed by when.
 fn mixed<P: Picker>(rt: &impl Abort, picker: &mut P) -> u64 {
-    let mut taken = Taken { turn: 0, sum: 0 };
-    in_turn(rt, picker, &mut taken);
-    for _ in 0..60 {
-        assert!(rt; taken.add(picker.take()));
+    let mut state = 1;
+    let mut sum: u64 = 0;
+    for turn in 1..121u64 {
+        if turn <= 60 {
+            state = put_next(rt, picker, state);
+            state = put_next(rt, picker, state);
+        }
+        let place = picker.take().expect(rt, "a place waits");
+        sum = sum.saturating_add(turn * place as u64);
     }
     assert_eq!(rt; picker.take(), None);
-    taken.sum
+    sum
 }
 
 #[test]

@@ -1,43 +1,39 @@
 // Both questions, in their order, at the ends of what is allowed.
 use picker::fault::PutFault;
-use picker::newest_first::NewestFirst;
-use picker::oldest_first::OldestFirst;
 use picker::picker::Picker;
-use ranked::amount_entry::AmountEntry;
+use picker::queue::{NewestFirst, OldestFirst};
+use ranked::entry::{AmountEntry, MarkerEntry};
 use ranked::largest_amount::LargestAmount;
 use ranked::lowest_marker::LowestMarker;
-use ranked::marker_entry::MarkerEntry;
+use std::cmp::Reverse;
 use std::process::Abort;
 
 const NO_MARK: MarkerEntry = MarkerEntry {
-    marker: 7,
+    rank: 7,
     place: 200,
 };
 
 const NO_AMOUNT: AmountEntry = AmountEntry {
-    amount: 9,
+    rank: Reverse(9),
     place: 200,
 };
 
-// The number of the question that gets a no, or 0.
-fn number(answer: Result<(), PutFault>) -> u8 {
-    match answer {
-        Ok(()) => 0,
-        Err(fault) => fault.number(),
-    }
+// Puts a place; where a question gets a no, its number.
+fn asked<P: Picker>(picker: &mut P, place: u8, amount: u32) -> Result<(), u8> {
+    picker.put(place, amount).map_err(PutFault::number)
 }
 
 // Places 127 and, beyond the last, 128 and 255, into a picker with this room in which nothing waits.
 fn fills_up<P: Picker>(rt: &impl Abort, picker: &mut P, room: usize) {
     assert_eq!(rt; picker.room(), room);
-    assert_eq!(rt; number(picker.put(128, 1)), 41);
+    assert_eq!(rt; asked(picker, 128, 1), Err(41));
     for _ in 0..room {
-        assert_eq!(rt; number(picker.put(127, 1)), 0);
+        assert_eq!(rt; asked(picker, 127, 1), Ok(()));
     }
     assert_eq!(rt; picker.waiting(), room);
-    assert_eq!(rt; number(picker.put(127, u32::MAX)), 42);
-    assert_eq!(rt; number(picker.put(128, 1)), 41);
-    assert_eq!(rt; number(picker.put(255, 1)), 41);
+    assert_eq!(rt; asked(picker, 127, u32::MAX), Err(42));
+    assert_eq!(rt; asked(picker, 128, 1), Err(41));
+    assert_eq!(rt; asked(picker, 255, 1), Err(41));
     assert_eq!(rt; picker.waiting(), room);
     assert_eq!(rt; picker.count(), 0);
 }
@@ -45,8 +41,8 @@ fn fills_up<P: Picker>(rt: &impl Abort, picker: &mut P, room: usize) {
 // After a take there is room for one again, and for no more.
 fn takes_one_more<P: Picker>(rt: &impl Abort, picker: &mut P) {
     assert_eq!(rt; picker.take(), Some(127));
-    assert_eq!(rt; number(picker.put(3, 0)), 0);
-    assert_eq!(rt; number(picker.put(4, 0)), 42);
+    assert_eq!(rt; asked(picker, 3, 0), Ok(()));
+    assert_eq!(rt; asked(picker, 4, 0), Err(42));
     assert_eq!(rt; picker.count(), 1);
 }
 

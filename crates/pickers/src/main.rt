@@ -7,14 +7,13 @@ ghost use Rattle.pickers.specs.All.{put_all};
 
 use anyhow::anyhow;
 use picker::fault::PutFault;
-use picker::newest_first::NewestFirst;
-use picker::oldest_first::OldestFirst;
 use picker::picker::Picker;
-use ranked::amount_entry::AmountEntry;
+use picker::queue::{NewestFirst, OldestFirst};
+use ranked::entry::{AmountEntry, MarkerEntry};
 use ranked::largest_amount::LargestAmount;
 use ranked::lowest_marker::LowestMarker;
-use ranked::marker_entry::MarkerEntry;
 use std::alloc::{AllocError, Global};
+use std::cmp::Reverse;
 
 // Places with their amounts, in the order in which they are put: some wait twice, and some amounts are equal.
 const PLACES: [(u8, u32); 8] = [
@@ -35,8 +34,7 @@ const MARKERS: [u8; 8] = [3, 0, 2, 9, 9, 1, 0, 2];
 fn put_all<P: Picker>(picker: &mut P, places: &[(u8, u32)]) -> Result<(), PutFault>
     ensures { OnOk result (P.meaning picker.new ≡ put_all (P.meaning picker.old) places.now) }
 {
-    for item in places {
-        let (place, amount) = *item;
+    for &(place, amount) in places {
         picker.put(place, amount)?;
     }
     Ok(())
@@ -56,9 +54,7 @@ fn taken_line<P: Picker>(heap: Global, name: &str, picker: &mut P) -> Result<Str
 
 // The line of one picker, in which nothing waits yet.
 fn show<P: Picker>(rt: &HostRuntime, name: &str, picker: &mut P) -> anyhow::Result<()> {
-    if put_all(picker, &PLACES).is_err() {
-        return Err(anyhow!("a place was refused"));
-    }
+    put_all(picker, &PLACES).map_err(|_| anyhow!("a place was refused"))?;
     rt.println(taken_line(rt.alloc(), name, picker)?)?;
     Ok(())
 }
@@ -66,17 +62,14 @@ fn show<P: Picker>(rt: &HostRuntime, name: &str, picker: &mut P) -> anyhow::Resu
 fn run(rt: &HostRuntime) -> anyhow::Result<()> {
     show(rt, "oldest first", &mut OldestFirst::new())?;
     show(rt, "newest first", &mut NewestFirst::new())?;
-    let mut marks = [MarkerEntry {
-        marker: 0,
-        place: 0,
-    }; 8];
+    let mut marks = [MarkerEntry { rank: 0, place: 0 }; 8];
     show(
         rt,
         "lowest marker",
         &mut LowestMarker::new(&MARKERS, &mut marks),
     )?;
     let mut amounts = [AmountEntry {
-        amount: 0,
+        rank: Reverse(0),
         place: 0,
     }; 8];
     show(rt, "largest amount", &mut LargestAmount::new(&mut amounts))

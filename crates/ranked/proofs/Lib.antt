@@ -1,4 +1,3 @@
--- Lemmas on entries in a heap, and on the places that they stand for.
-pub mod Entries
+-- Lemmas on what leaves by the orders of the entries, and on the places that they stand for.
+pub mod Taken
 pub mod Places
-pub mod Markers

@@ -1,3 +1,4 @@
 -- The specifications of pickers that rank.
 pub mod Orders
+pub mod Waiting
 pub mod Ranked

@@ -1,24 +1,17 @@
 -- The places that wait in a picker that ranks them, and which of them it takes.
---   Joined                           putting: one more in a list, or the list as it was
 --   lower                            whether a place comes no later than another by their turn markers
 --   LowestTaken                      taking by the least marker
 --   LargestTaken                     taking by the greatest amount
 --   marker_places, amounts           what waits in either picker
 --   marker_meaning, amount_meaning   what these pickers mean
-use Rattle.std.specs.Prelude.{◌≡◌, ℕ, Bool, true, cond, List, [], ◌∷◌, map, Some, None, Ok, Err, Option, Result, ◌==◌, nat_le, nat_lt}
+use Rattle.std.specs.Prelude.{◌≡◌, ℕ, Bool, true, cond, List, [], ◌∷◌, map, Some, None, Option, ◌==◌, nat_le, nat_lt}
 use Rattle.std.specs.List.Sorted.{IsPermutation}
 use Rattle.std.specs.List.{AllByRecursion}
-use Rattle.heap.specs.Held.{held, room}
-use Rattle.picker.specs.Meaning.{Meaning, meaning_of}
-use Rattle.ranked.specs.Orders.{marker_of, amount_before}
-use Rattle.ranked.specs.declared.amount_entry.AmountEntry.{AmountEntry}
+use Rattle.picker.specs.Meaning.{Meaning}
+use Rattle.ranked.specs.Orders.{AmountEntry, with_amount, marker_of, amount_before}
+use Rattle.ranked.specs.Waiting.{entries, waiting_meaning}
 use Rattle.ranked.specs.declared.largest_amount.LargestAmount.{LargestAmount}
 use Rattle.ranked.specs.declared.lowest_marker.LowestMarker.{LowestMarker}
-
--- Putting x: accepted, it joins what waits, wherever; refused, what waits stays.
-abbrev pub Joined : {X F : Type 0} → List X → X → Result (Unit {0}) F → List X → Type 0
-Joined xs x (Ok done) ys = IsPermutation (x ∷ xs) ys
-Joined xs x (Err fault) ys = ys ≡ xs
 
 -- Whether place p comes no later than place q: its marker is less, or they are equal and p is no higher.
 abbrev pub lower : List ℕ → ℕ → ℕ → Bool
@@ -36,20 +29,20 @@ LowestTaken markers xs (Some p) ys = IsPermutation xs (p ∷ ys) × AllByRecursi
 abbrev pub LargestTaken : List AmountEntry → Option ℕ → List AmountEntry → Type 0
 LargestTaken xs None ys = (xs ≡ []) × (ys ≡ [])
 LargestTaken xs (Some p) ys =
-    (a : ℕ) × IsPermutation xs (record { amount = a; place = p } ∷ ys) × AllByRecursion (λ y. amount_before (record { amount = a; place = p }) y ≡ true) xs
+    (a : ℕ) × IsPermutation xs (with_amount a p ∷ ys) × AllByRecursion (λ y. amount_before (with_amount a p) y ≡ true) xs
 
 -- The places that wait in a picker by markers, in no order.
 abbrev pub marker_places : LowestMarker → List ℕ
-marker_places p = map (λ e. e.place) (held p.heap)
+marker_places p = map (λ e. e.place) (entries p.waiting)
 
 -- What it means: these places wait, and there is room for as many as entries are lent.
 abbrev pub marker_meaning : LowestMarker → Meaning
-marker_meaning p = meaning_of (marker_places p) (room p.heap) p.count
+marker_meaning p = waiting_meaning p.waiting
 
 -- The places that wait in a picker by amounts, each with the amount that it was put with, in no order.
 abbrev pub amounts : LargestAmount → List AmountEntry
-amounts p = held p.heap
+amounts p = entries p.waiting
 
 -- What it means: these places wait, and there is room for as many as entries are lent.
 abbrev pub amount_meaning : LargestAmount → Meaning
-amount_meaning p = meaning_of (map (λ e. e.place) (amounts p)) (room p.heap) p.count
+amount_meaning p = waiting_meaning p.waiting

@@ -1,7 +1,8 @@
 // Pickers that rank the places that wait: by their turn markers, or by the amounts that they were put with.
 #![tactic(auto)]
 
-pub mod amount_entry;
+pub mod entry;
 pub mod largest_amount;
+pub mod laws;
 pub mod lowest_marker;
-pub mod marker_entry;
+mod waiting;

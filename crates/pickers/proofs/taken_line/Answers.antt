@@ -1,14 +1,8 @@
-use Rattle.std.proofs.Common.{ap, ◌∙◌, arith}
-use Rattle.picker.specs.Meaning.{Meaning}
-use Rattle.picker.proofs.Drained.{below_128, took_one}
+use Rattle.std.proofs.Common.{arith}
+use Rattle.picker.proofs.Drained.{took_one}
 use Rattle.pickers.proofs.taken_line.Goals as goal
 
 pub loop-place-smaller : goal.loop-place-smaller
 loop-place-smaller g c =
     let before = g.P.Picker.meaning c.loop-place.picker in
-    let took = c.in-Some.ensures.took in
-    let less = took_one before _ _ (below_128 before _ (g.P.Picker.lawful.inside c.loop-place.picker) took.0) took in
-    omega arith
-
-pub returns : goal.returns
-returns g c = let took = c.in_default.ensures.took in ap (λ (m : Meaning). m.waits) took.1 ∙ took.0
+    omega (arith, took_one before _ _ (g.P.Picker.lawful.inside c.loop-place.picker) c.in-Some.ensures.took)

@@ -1,32 +1,23 @@
 -- The entry is put behind those held, and rises.
-use Rattle.std.proofs.Common.{length, sym, ap, ◌∙◌, arith}
-use Rattle.std.proofs.lemmas.List.{length_push, length-set}
+use Rattle.std.proofs.Common.{arith}
+use Rattle.std.proofs.lemmas.List.{length-set, length-take, take_more_set}
 use Rattle.std.proofs.lemmas.List.Sorted.{IsPermutation-trans}
-use Rattle.std.proofs.lemmas.Bool.{lt-ltb}
 use Rattle.heap.specs.Held.{held}
-use Rattle.heap.proofs.Moves.{held_pushed, shuffled_push}
+use Rattle.heap.proofs.Moves.{shuffled_push, front_of}
 use Rattle.heap.proofs.Rising.{last_may_rise}
 use Rattle.heap.proofs.heap.Heap.push.Goals as goal
 
-pub sift_up-requires : goal.sift_up-requires
-sift_up-requires g c =
+pub invariant_of-self-2-clause-ordered : goal.invariant_of-self-2-clause-ordered
+invariant_of-self-2-clause-ordered g c =
     let h = c.args.self.now in
-    let is = held_pushed h c.len-len.result c.args.entry c.len-len.ensures c.if-len-self.false in
-    let long = ap length is ∙ length_push (held h) c.args.entry in
-    omega arith
+    let few = h.few in
+    let all = front_of c.sift_up.new.entries _ _ c.sift_up.auto.entries (omega (arith, length-set {A = g.row.E.Denot})) in
+    let behind = take_more_set h.entries.now h.len c.args.entry c.if-len-self.false in
+    rw all (c.sift_up.ensures.order (last_may_rise g.E.Entry.before (held h) _ c.args.entry h.len (omega (arith, length-take h.len h.entries.now)) behind h.ordered))
 
-pub returns : goal.returns
-returns g c =
+pub returns-clause-held : goal.returns-clause-held
+returns-clause-held g c =
     let h = c.args.self.now in
-    let x = c.args.entry in
-    let len = c.len-len.result in
-    let told = c.sift_up.ensures in
-    let is = held_pushed h len x c.len-len.ensures c.if-len-self.false in
-    record {
-      accepts = sym (lt-ltb _ _ (omega arith));
-      held = (
-        IsPermutation-trans _ _ _ (shuffled_push (held h) _ x is) told.held,
-        λ o. told.order (last_may_rise g.E.Entry.before (held h) _ x len c.len-len.ensures is o),
-      );
-      room = told.room ∙ length-set h.entries.now len x;
-    }
+    let all = front_of c.sift_up.new.entries _ _ c.sift_up.auto.entries (omega (arith, length-set {A = g.row.E.Denot})) in
+    let joined = shuffled_push (held h) _ c.args.entry (take_more_set h.entries.now h.len c.args.entry c.if-len-self.false) in
+    rw all (IsPermutation-trans _ _ _ joined c.sift_up.ensures.held)

@@ -1,0 +1,78 @@
+-- What leaves a heap of ranked places: the derived orders are those that the specifications say, and markers stay.
+use Rattle.std.proofs.Common.{◌≡◌, ℕ, ◌<◌, Bool, true, List, ◌∷◌, map, length, get_or, Some, None, Ok, Err, Option, Result, option_map, ap, ◌∙◌, sym, subst, arith}
+use Rattle.std.specs.List.{AllByRecursion}
+use Rattle.std.specs.Ordering.{is_le, nat_cmp, ordering_then}
+use Rattle.std.proofs.ByRecursion.{All-get_or, All-from_get_or, All-map, All-weaker, all_shuffled}
+use Rattle.std.proofs.lemmas.List.Sorted.{IsPermutation-map}
+use Rattle.heap.specs.Order.{Popped}
+use Rattle.ranked.specs.Orders.{MarkerEntry, AmountEntry, Marked, marker_before, amount_before}
+use Rattle.ranked.specs.Ranked.{lower, LowestTaken, LargestTaken}
+use Rattle.ranked.specs.Waiting.{Joined}
+
+-- What is read of an index past the end.
+abbrev pub blank : MarkerEntry
+blank = record { rank = 0; place = 0 }
+
+by_marker : (x y : MarkerEntry) → is_le (ordering_then (nat_cmp x.rank y.rank) (nat_cmp x.place y.place)) ≡ marker_before x y
+by_marker x y = grind arith
+
+by_amount : (x y : AmountEntry) → is_le (ordering_then (nat_cmp y.rank.0 x.rank.0) (nat_cmp x.place y.place)) ≡ amount_before x y
+by_amount x y = grind arith
+
+-- The entry that leaves has the greatest amount.
+pub largest_taken : (xs ys : List AmountEntry) (r : Option AmountEntry)
+    → Popped (λ x y. is_le (ordering_then (nat_cmp y.rank.0 x.rank.0) (nat_cmp x.place y.place))) xs r ys
+    → LargestTaken xs (option_map (λ e. e.place) r) ys
+largest_taken xs ys None t = t
+largest_taken xs ys (Some x) t =
+    (x.rank.0, t.0, All-weaker _ _ (λ y h. sym (by_amount x y) ∙ h) xs t.1)
+
+module _ (markers : List ℕ) where
+  -- Each entry has the marker of its place.
+  abbrev pub Each : List MarkerEntry → Type 0
+  Each xs = (k : ℕ) → k < length xs → Marked markers (get_or xs k blank)
+
+  all_of : (xs : List MarkerEntry) → Each xs → AllByRecursion (Marked markers) xs
+  all_of xs each = All-from_get_or (Marked markers) xs blank each
+
+  each_of : (xs : List MarkerEntry) → AllByRecursion (Marked markers) xs → Each xs
+  each_of xs all k l = All-get_or (Marked markers) xs k blank l all
+
+  lower_from_before : (x y : MarkerEntry) → Marked markers x → Marked markers y
+      → is_le (ordering_then (nat_cmp x.rank y.rank) (nat_cmp x.place y.place)) ≡ true
+      → lower markers x.place y.place ≡ true
+  lower_from_before x y mine yours h = let t = by_marker x y in cc
+
+  -- So it stays where one joins that has it, and where one leaves.
+  pub joined_each : {F : Type 0} (xs ys : List MarkerEntry) (x : MarkerEntry) (r : Result (Unit {0}) F)
+      → Joined xs x r ys
+      → Marked markers x
+      → Each xs
+      → Each ys
+  joined_each xs ys x (Ok done) t mine each = each_of ys (all_shuffled (Marked markers) (x ∷ xs) ys t (mine, all_of xs each))
+  joined_each xs ys x (Err fault) t mine each = subst Each (sym t) each
+
+  module _ (before : MarkerEntry → MarkerEntry → Bool) where
+    pub popped_each : (xs ys : List MarkerEntry) (r : Option MarkerEntry) → Popped before xs r ys → Each xs → Each ys
+    popped_each xs ys None t each = each_of ys (subst (AllByRecursion (Marked markers)) (t.0 ∙ sym t.1) (all_of xs each))
+    popped_each xs ys (Some x) t each = each_of ys (all_shuffled (Marked markers) xs (x ∷ ys) t.0 (all_of xs each)).1
+
+  -- The place of the entry that leaves has the least marker.
+  pub lowest_taken : (xs ys : List MarkerEntry) (r : Option MarkerEntry)
+      → Popped (λ x y. is_le (ordering_then (nat_cmp x.rank y.rank) (nat_cmp x.place y.place))) xs r ys
+      → Each xs
+      → LowestTaken markers (map (λ e. e.place) xs) (option_map (λ e. e.place) r) (map (λ e. e.place) ys)
+  lowest_taken xs ys None t each = (ap (map (λ e. e.place)) t.0, ap (map (λ e. e.place)) t.1)
+  lowest_taken xs ys (Some x) t each =
+      let mine : Marked markers x = (all_shuffled (Marked markers) xs (x ∷ ys) t.0 (all_of xs each)).0 in (
+        IsPermutation-map (λ e. e.place) xs (x ∷ ys) t.0,
+        All-map (λ q. lower markers x.place q ≡ true) (λ e. e.place) xs
+            (All-from_get_or (λ y. lower markers x.place y.place ≡ true) xs blank
+            (λ k l. lower_from_before x (get_or xs k blank) mine (each k l) (All-get_or _ xs k blank l t.1))),
+      )
+
+-- The place of the entry joins the places that wait.
+pub joined_places : {X F : Type 0} (place : X → ℕ) (xs ys : List X) (x : X) (r : Result (Unit {0}) F) → Joined xs x r ys
+    → Joined (map place xs) (place x) r (map place ys)
+joined_places place xs ys x (Ok done) t = IsPermutation-map place (x ∷ xs) ys t
+joined_places place xs ys x (Err fault) t = ap (map place) t
