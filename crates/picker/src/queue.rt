@@ -66,7 +66,8 @@ impl<E: End> Picker for Queue<E> {
         ensures queue { queue self.new
             ≡ (if is_ok result then E.joined (queue self.old) place else queue self.old) }
     {
-        check_put(place, self.row.len(), ROOM)?;
+        let waiting = self.row.len();
+        check_put(place, waiting, ROOM)?;
         self.row.push_back(place);
         Ok(())
     }

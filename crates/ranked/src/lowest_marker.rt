@@ -43,7 +43,7 @@ impl<'m, 'e> LowestMarker<'m, 'e> {
         ensures { result ≡ marker_of self.now.markers.now place }
     {
         self.markers
-            .get(place as usize)
+            .get(usize::from(place))
             .copied()
             .unwrap_or(NO_MARKER)
     }

@@ -10,5 +10,5 @@ invariant_of-self g c =
 pub returns-clause-meaning : goal.returns-clause-meaning
 returns-clause-meaning g c =
     let p = c.args.self.now in
-    let asked = rw c.len.ensures at c.in_ok-check_put.ensures in
+    let asked = rw c.len-waiting.ensures at c.in_ok-check_put.ensures in
     (asked_accepted p.row 128 p.count.number c.args.place _ p.inside asked (joined_last p.row _ c.args.place c.push_back.ensures)).1
