@@ -30,7 +30,8 @@ fn byte_at(bytes: &[u8], index: usize) -> u8
     bytes.get(index).copied().unwrap_or(0)
 }
 
-// The number that a field states which begins at bit `start`; a bit past the end counts as 0.
+// The number that a field states which begins at bit `start`; a bit past the end counts as 0. (That it is below
+// 2 ^ width is a clause of each call that answers such a number: a type for each width would be no plainer.)
 pub fn field_at(bytes: &[u8], start: usize, field: Field) -> u16
     ensures value { result ≡ field_at (bits_of bytes.now) start (width field) }
     ensures bound { result < 2 ^ width field }

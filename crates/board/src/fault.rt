@@ -29,7 +29,8 @@ pub enum RouteFault {
 }
 
 impl FrameFault {
-    // The question's number.
+    // The question's number. (A match of its own in each enum of faults: nothing asks it of just any fault, so that a
+    // trait would be no plainer.)
     pub fn number(self) -> u8
         ensures { result ≡ frame_number self }
     {
@@ -42,7 +43,8 @@ impl FrameFault {
 }
 
 impl RouteFault {
-    // The question's number.
+    // The question's number. (A match of its own in each enum of faults: nothing asks it of just any fault, so that a
+    // trait would be no plainer.)
     pub fn number(self) -> u8
         ensures { result ≡ route_number self }
     {

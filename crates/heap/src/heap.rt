@@ -5,7 +5,7 @@ ghost use Rattle.heap.specs.Order.{Ordered};
 use crate::entry::Entry;
 use crate::sifting::{remove_first, sift_up};
 
-// A heap of at most as many entries as are lent to it. The first `len` of them are held, and none of these comes
+// A heap of at most as many entries as are lent to it: a slice with its length beside, since nothing here allocates. The first `len` of them are held, and none of these comes
 // earlier than its parent, which for index k is at (k - 1) / 2: so the first comes no later than any other.
 #[derive(Drop)]
 pub struct Heap<'a, E: Entry> {
@@ -28,7 +28,8 @@ impl<'a, E: Entry> Heap<'a, E> {
         Heap { entries, len: 0 }
     }
 
-    // How many entries it can hold.
+    // How many entries it can hold. (That this stays is a clause of each call that changes the heap: it relates two
+    // states, and a type speaks of one.)
     pub fn room(&self) -> usize
         ensures { result ≡ room self.now }
     {

@@ -50,6 +50,7 @@ pub enum Layer {
     Sheet,
 }
 
+// Three conversions by hand: contracts name the fault that `?` makes, so each says what it gives.
 impl From<BitFault> for SheetFault {
     ghost from_gives = { λ x y. y ≡ Bits x };
 
@@ -113,7 +114,8 @@ impl fmt::Display for SheetFault {
 impl Error for SheetFault {}
 
 impl SheetFault {
-    // The question's number.
+    // The question's number. (A match of its own in each enum of faults: nothing asks it of just any fault, so that a
+    // trait would be no plainer.)
     pub fn number(self) -> u8
         ensures { result ≡ sheet_number self }
     {
@@ -175,7 +177,7 @@ impl SheetFault {
     }
 }
 
-// The header's field that a frame is refused for.
+// The header's field that a frame is refused for. (No `From`, here and below: both types are of other crates.)
 fn frame_field(fault: FrameFault) -> Field
     ensures { result ≡ frame_field fault }
 {

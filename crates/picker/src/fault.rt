@@ -14,7 +14,8 @@ pub enum PutFault {
 }
 
 impl PutFault {
-    // The question's number.
+    // The question's number. (A match of its own in each enum of faults: nothing asks it of just any fault, so that a
+    // trait would be no plainer.)
     pub fn number(self) -> u8
         ensures { result ≡ put_number self }
     {

@@ -62,7 +62,7 @@ fn mixed<P: Picker>(rt: &impl Abort, picker: &mut P) -> u64 {
             state = put_next(rt, picker, state);
         }
         let place = picker.take().expect(rt, "a place waits");
-        sum = sum.saturating_add(turn * place as u64);
+        sum = sum.saturating_add(turn * u64::from(place));
     }
     assert_eq!(rt; picker.take(), None);
     sum

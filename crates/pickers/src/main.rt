@@ -46,8 +46,7 @@ fn taken_line<P: Picker>(heap: Global, name: &str, picker: &mut P) -> Result<Str
 {
     let mut line = String::from_str(heap, name)?;
     while let Some(place) = picker.take() {
-        let part = format!(in heap; " {place}")?;
-        line.push_str(part.as_str())?;
+        write!(line, " {place}")?;
     }
     Ok(line)
 }

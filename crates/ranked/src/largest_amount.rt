@@ -27,6 +27,7 @@ impl<'e> LargestAmount<'e> {
     }
 }
 
+// The calls are those of what waits; what is promised of them is this picker's own, so it is a type of its own.
 impl<'e> Picker for LargestAmount<'e> {
     ghost use Rattle.std.specs.Prelude.{◌≡◌, []};
     ghost use Rattle.picker.specs.Meaning.{emptied, put_answer, put_to, Took};

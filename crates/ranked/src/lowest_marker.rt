@@ -38,7 +38,8 @@ impl<'m, 'e> LowestMarker<'m, 'e> {
         }
     }
 
-    // The turn marker of a place.
+    // The turn marker of a place. (That the markers stay is a clause of each call that changes the picker: it relates
+    // two states, and a type speaks of one.)
     pub fn marker(&self, place: u8) -> u8
         ensures { result ≡ marker_of self.now.markers.now place }
     {

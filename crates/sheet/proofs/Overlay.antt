@@ -9,7 +9,6 @@ use Rattle.std.proofs.lemmas.List.{append-nil, append_assoc, length-append, leng
 use Rattle.bits.specs.Bits.{digits, bits_of, zeros, fill, written}
 use Rattle.bits.specs.Fields.{width}
 use Rattle.bits.specs.declared.field.Field.{Field}
-use Rattle.bits.specs.declared.field.Field.TheVariants.{Places, Home, Port, Routes, Start, End, Floor, Ceiling}
 use Rattle.sheet.specs.Writing.{window_of, bytes_to, Placed}
 use Rattle.bits.proofs.Bits.{length_digits, length_bits_of, digits_append, digits_low, digits_mod}
 use Rattle.bits.proofs.Bytes.{bits_of_append, bits_of_take, bits_of_drop}
@@ -213,14 +212,7 @@ set_three bs i a b c h =
     ap (λ (l : List ℕ). set l (i + 2) c) (set_two bs i a b (omega arith)) ∙ over_more bs i (a ∷ b ∷ []) (i + 2) c refl h
 
 pub width_some : (f : Field) → (0 < width f) × (width f < 14)
-width_some Places = (omega arith, omega arith)
-width_some Home = (omega arith, omega arith)
-width_some Port = (omega arith, omega arith)
-width_some Routes = (omega arith, omega arith)
-width_some Start = (omega arith, omega arith)
-width_some End = (omega arith, omega arith)
-width_some Floor = (omega arith, omega arith)
-width_some Ceiling = (omega arith, omega arith)
+width_some f = (grind arith, grind arith)
 
 -- the first m bytes of the window n set from byte s / 8 on, where the field, u bits wide, ends in the last of them
 pub placed_over : (bs : List ℕ) (s : ℕ) (field : Field) (v u n m : ℕ) (out : List ℕ) → s + width field ≤ 8 * length bs → u ≡ width field → n ≡ window_of (get_or bs (s / 8) 0) (s % 8) u v → bytes_to (s % 8 + u) ≡ m → out ≡ over bs (s / 8) (take m (window_bytes n)) → Placed bs s (digits (width field) v) out

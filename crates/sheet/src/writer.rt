@@ -7,7 +7,7 @@ ghost use Rattle.sheet.specs.Writing.{bytes_to, window_of, put_answer, put_bits,
 use bits::fault::BitFault;
 use bits::field::{Field, end_of};
 
-// A buffer, and the bit where the next field begins.
+// A buffer, and the bit where the next field begins. (No `impl Model`: clauses speak of the loan of the buffer too.)
 #[derive(Drop)]
 pub struct BitWriter<'a> {
     buffer: &'a mut [u8],

@@ -22,6 +22,7 @@ pub enum WriteFault {
     Buffer,
 }
 
+// By hand: contracts name the fault that `?` makes, so it says what it gives.
 impl From<OrderFault> for WriteFault {
     ghost from_gives = { λ x y. y ≡ Order x };
 
@@ -31,7 +32,8 @@ impl From<OrderFault> for WriteFault {
 }
 
 impl WriteFault {
-    // The question's number.
+    // The question's number. (A match of its own in each enum of faults: nothing asks it of just any fault, so that a
+    // trait would be no plainer.)
     pub fn number(self) -> u8
         ensures { result ≡ write_number self }
     {

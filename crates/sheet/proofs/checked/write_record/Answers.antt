@@ -1,11 +1,18 @@
 -- The record's four fields, one behind the other.
-use Rattle.std.proofs.Common.{◌≡◌, ◌∙◌, w16, SFits, rules}
+use Rattle.std.proofs.Common.{◌≡◌, ◌∙◌, w16, SFits, arith, rules}
 use Rattle.std.proofs.lemmas.Int.{to_z-of_z}
 use Rattle.bits.specs.Signed.{narrowed, narrowed_any}
+use Rattle.bits.proofs.Bits.{length_digits}
 use Rattle.bits.proofs.TwosComplement.{narrowed_any_lem}
 use Rattle.layout.specs.Format.{record_bits}
 use Rattle.sheet.proofs.Placed.{wrote_more}
 use Rattle.sheet.proofs.checked.write_record.Goals as goal
+
+pub place-requires-2 : goal.place-requires-2
+place-requires-2 c = grind (arith, length_digits)
+
+pub place-requires-3 : goal.place-requires-3
+place-requires-3 c = grind (arith, length_digits)
 
 pub returns : goal.returns
 unfolding record_bits

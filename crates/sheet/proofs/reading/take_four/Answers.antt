@@ -3,12 +3,9 @@ use Rattle.std.proofs.Common.{arith}
 use Rattle.std.proofs.lemmas.List.{length-set}
 use Rattle.std.proofs.lemmas.Result.{err_from_is_err_and}
 use Rattle.bits.specs.declared.field.Field.TheVariants.{Places}
-use Rattle.sheet.proofs.Asked.{taking_none, taking_stop, taking_more, taking_all}
+use Rattle.sheet.proofs.Asked.{taking_stop, taking_more}
 use Rattle.sheet.proofs.Exits.{refused_by}
 use Rattle.sheet.proofs.reading.take_four.Goals as goal
-
-pub loop-k-init : goal.loop-k-init
-loop-k-init c = (taking_none _ _ _ c.requires.turn, search)
 
 pub returns-in_err-numbers : goal.returns-in_err-numbers
 returns-in_err-numbers c =
@@ -20,8 +17,3 @@ pub loop-k-preserved : goal.loop-k-preserved
 loop-k-preserved c =
     let more = taking_more _ _ _ _ _ Places c.loop-k.invariant.0 c.requires.start (omega arith) c.in_ok-numbers.field-0 (omega arith) c.in_ok-numbers.ensures.answer in
     (rw c.in_ok-numbers.ensures.reader more, rw length-set (omega arith))
-
-pub returns : goal.returns
-returns c =
-    let all = taking_all _ _ _ _ _ Places c.loop-k.invariant.0 (omega arith) (omega arith) in
-    record { answer = all.0; reader = all.1 }

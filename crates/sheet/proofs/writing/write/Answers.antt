@@ -35,11 +35,6 @@ returns-then-buffer-length c =
     let e = write_short b n a.0 (omega arith) in
     record { answer = sym e; sheet = tt; later = tt; refused = λ _. refl; valid = refused_decides b n _ e }
 
-pub write-requires : goal.write-requires
-write-requires c =
-    let room = ap length c.new-writer.ensures.buffer in
-    record { start = c.new-writer.ensures.position; room = omega (arith, c.sheet_length-length.ensures) }
-
 pub returns : goal.returns
 returns c =
     let b : Board = board_with c.args.frame.now c.args.routes.now in

@@ -1,5 +1,5 @@
 -- The route of the next number is the first that is left.
-use Rattle.std.proofs.Common.{ap, sym, length, arith, rules}
+use Rattle.std.proofs.Common.{sym, rules}
 use Rattle.std.proofs.lemmas.Option.{slice_get_within}
 use Rattle.sheet.specs.View.{board_of}
 use Rattle.sheet.proofs.Shown.{left_more, left_none, routes_few}
@@ -18,8 +18,3 @@ overflow_add-self c =
 
 pub returns-clause-steps : goal.returns-clause-steps
 returns-clause-steps c = left_more (board_of c.args.self.now.sheet).routes c.args.self.now.next c.in_ok-route.route c.in_ok-route.ensures
-
-pub returns-clause-goes : goal.returns-clause-goes
-returns-clause-goes c =
-    let e = ap length (left_more (board_of c.args.self.now.sheet).routes c.args.self.now.next c.in_ok-route.route c.in_ok-route.ensures) in
-    record { on = λ _. (tt, tt, omega arith); keeps = tt; rests = λ _. tt }

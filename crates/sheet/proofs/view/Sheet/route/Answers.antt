@@ -1,18 +1,11 @@
 -- Below the number of routes, the record of a number is that of its route; from there on there is none.
-use Rattle.std.proofs.Common.{◌<◌, ◌≤◌, length, Some, sym, ap, ◌∙◌, zero-add, arith}
-use Rattle.std.proofs.lemmas.Option.{slice_get_past}
+use Rattle.std.proofs.Common.{◌<◌, Some, sym, ap, ◌∙◌, zero-add, arith}
 use Rattle.layout.proofs.Stated.{length_routes_from, slice_get-routes_from}
 use Rattle.bits.specs.Bits.{bits_of}
 use Rattle.bits.specs.Fields.{record_start}
-use Rattle.layout.specs.Stated.{stated, stating, route_at, routes_from}
+use Rattle.layout.specs.Stated.{stated, stating, route_at}
 use Rattle.bits.specs.declared.field.Field.TheVariants.{Routes}
 use Rattle.sheet.proofs.view.Sheet.route.Goals as goal
-
-pub record_start-requires : goal.record_start-requires
-record_start-requires c = omega (arith, c.len.ensures.bound)
-
-pub route_at-requires : goal.route_at-requires
-route_at-requires c = omega (arith, c.len.ensures.bound, c.record_start.ensures)
 
 pub returns-then-number-len : goal.returns-then-number-len
 unfolding stated
@@ -23,11 +16,3 @@ returns-then-number-len c =
     ap Some (c.route_at.ensures ∙ ap (route_at bits) c.record_start.ensures)
     ∙ ap (λ x. Some (route_at bits (record_start x))) (sym (zero-add c.args.number))
     ∙ sym (slice_get-routes_from bits 0 n c.args.number l)
-
-pub returns-else-number-len : goal.returns-else-number-len
-unfolding stated
-returns-else-number-len c =
-    let bits = bits_of c.args.self.now.bytes.now in
-    let n = stating bits 0 Routes in
-    let l : length (routes_from bits 0 n) ≤ c.args.number = omega (arith, c.len.ensures.value) in
-    sym (slice_get_past (routes_from bits 0 n) c.args.number l)
