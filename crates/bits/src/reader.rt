@@ -62,10 +62,7 @@ impl<'a> BitReader<'a> {
         ensures reader { self.new ≡ (if is_ok result then moved self.old (width field) else self.old) }
     {
         let start = self.position;
-        let Some(end) = end_of(field, start, self.bytes.len()) else {
-            return Err(BitFault { bit: start });
-        };
-        self.position = end;
+        self.position = end_of(field, start, self.bytes.len()).ok_or(BitFault { bit: start })?;
         Ok(field_at(self.bytes, start, field))
     }
 }

@@ -7,7 +7,8 @@ pub trait Entry: Copy {
     // Whether the first comes no later than the second.
     ghost before: { Self → Self → Bool };
 
-    // Whether this entry comes no later than another.
+    // Whether this entry comes no later than another. (A bound `Ord` would ask more of a caller: `==` and `cmp`, which a
+    // heap does not use, and that both agree.)
     fn no_later(self, other: Self) -> bool
         ensures { result ≡ before self other };
 

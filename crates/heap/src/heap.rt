@@ -5,8 +5,9 @@ ghost use Rattle.heap.specs.Order.{Ordered};
 use crate::entry::Entry;
 use crate::sifting::{remove_first, sift_up};
 
-// A heap of at most as many entries as are lent to it: a slice with its length beside, since nothing here allocates. The first `len` of them are held, and none of these comes
-// earlier than its parent, which for index k is at (k - 1) / 2: so the first comes no later than any other.
+// A heap of at most as many entries as are lent to it: a slice with its length beside, since nothing here allocates.
+// The first `len` of them are held, and none of these comes earlier than its parent, which for index k is at
+// (k - 1) / 2: so the first comes no later than any other.
 #[derive(Drop)]
 pub struct Heap<'a, E: Entry> {
     entries: &'a mut [E],

@@ -1,56 +1,71 @@
--- Places in a row, and in the order in which they leave it.
-use Rattle.std.proofs.Common.{◌≡◌, ℕ, List, [], ◌∷◌, length, Some, None, sym, refl, ap, ◌∙◌, subst, arith}
+-- Places in the order in which they leave a row.
+use Rattle.std.proofs.Common.{◌≡◌, ℕ, ◌≤◌, List, [], ◌∷◌, ◌++◌, length, Some, None, sym, ap, ◌∙◌, subst, arith}
 use Rattle.std.specs.List.Sorted.{IsPermutation}
-use Rattle.std.proofs.lemmas.List.Sorted.{IsPermutation-sym, IsPermutation-trans, IsPermutation-cons, length_permutation}
-use Rattle.picker.specs.Meaning.{counted, Took, Inside, occurs, meaning_of}
+use Rattle.std.proofs.lemmas.List.{nil_from_length}
+use Rattle.std.proofs.lemmas.List.Sorted.{IsPermutation-refl, IsPermutation-sym, IsPermutation-trans, IsPermutation-cons, length_permutation}
+use Rattle.picker.specs.Meaning.{waiting_below, counted, Took, fresh, Inside, occurs, meaning_of}
 use Rattle.picker.specs.Rows.{head_of, tail_of}
-use Rattle.picker.proofs.Listed.{shuffled_inside, rest_inside, took_some}
-
-none : (xs : List ℕ) → length xs ≡ 0 → xs ≡ []
-none [] e = refl
-none (x ∷ xs) e = absurd (omega arith)
-
-tail_inside : (xs : List ℕ) → Inside (occurs xs) → Inside (occurs (tail_of xs))
-tail_inside [] h = h
-tail_inside (x ∷ xs) h = rest_inside x xs h
+use Rattle.picker.proofs.Listed.{waiting_occurs, rest_inside, joined_last, took_some}
 
 headless : (xs : List ℕ) → None ≡ head_of xs → xs ≡ []
-headless [] e = refl
+headless [] e = cc
 headless (x ∷ xs) e = absurd (cc)
 
 headed : (xs : List ℕ) (p : ℕ) → Some p ≡ head_of xs → xs ≡ p ∷ tail_of xs
 headed [] p e = absurd (cc)
 headed (x ∷ xs) p e = cc
 
-module _ (order : List ℕ → List ℕ) (same : (xs : List ℕ) → IsPermutation xs (order xs)) where
-  -- no places, in the order or in the row
-  pub none_ordered : (xs : List ℕ) → xs ≡ [] → order xs ≡ []
-  none_ordered xs e = none (order xs) (length_permutation xs (order xs) (same xs) ∙ ap length e)
+tail_inside : (xs : List ℕ) → Inside (occurs xs) → Inside (occurs (tail_of xs))
+tail_inside [] h = h
+tail_inside (x ∷ xs) h = rest_inside x xs h
 
-  none_there : (xs : List ℕ) → order xs ≡ [] → xs ≡ []
-  none_there xs e = none xs (sym (length_permutation xs (order xs) (same xs)) ∙ ap length e)
+tail_few : (n : ℕ) (xs : List ℕ) → length xs ≤ n → length (tail_of xs) ≤ n
+tail_few n [] h = h
+tail_few n (x ∷ xs) h = omega arith
 
-  module _ (xs ys : List ℕ) (rest : order ys ≡ tail_of (order xs)) where
-    -- no other place waits after the next left
-    pub left_inside : Inside (occurs xs) → Inside (occurs ys)
-    left_inside h =
-        let there = tail_inside (order xs) (shuffled_inside xs (order xs) (same xs) h) in
-        shuffled_inside (order ys) ys (IsPermutation-sym ys (order ys) (same ys)) (subst (λ l. Inside (occurs l)) (sym rest) there)
+module _ (order : List ℕ → List ℕ) (xs ys : List ℕ) (rest : order ys ≡ tail_of (order xs)) where
+  -- no other place waits after the next left, and no more of them
+  pub left_inside : Inside (occurs (order xs)) → Inside (occurs (order ys))
+  left_inside h = subst (λ l. Inside (occurs l)) (sym rest) (tail_inside (order xs) h)
 
-    next_left : (p : ℕ) → Some p ≡ head_of (order xs) → IsPermutation xs (p ∷ ys)
-    next_left p e =
+  pub left_few : (n : ℕ) → length (order xs) ≤ n → length (order ys) ≤ n
+  left_few n h = subst (λ l. length l ≤ n) (sym rest) (tail_few n (order xs) h)
+
+  module _ (room count : ℕ) where
+    -- none was taken: there were none, and there are none
+    pub took_nothing : None ≡ head_of (order xs) → Took (meaning_of (order xs) room count) None (meaning_of (order ys) room count)
+    took_nothing e =
+        let no = headless (order xs) e in
+        (ap occurs no, ap (λ l. meaning_of l room count) (rest ∙ ap tail_of no ∙ sym no))
+
+    -- the next was taken
+    pub took_next : (p next : ℕ) → Some p ≡ head_of (order xs) → next ≡ counted count
+        → Took (meaning_of (order xs) room count) (Some p) (meaning_of (order ys) room next)
+    took_next p next e n =
         let split : order xs ≡ p ∷ order ys = headed (order xs) p e ∙ ap (λ l. p ∷ l) (sym rest) in
-        IsPermutation-trans xs (p ∷ order ys) (p ∷ ys) (subst (IsPermutation xs) split (same xs)) (IsPermutation-cons p (order ys) ys (IsPermutation-sym ys (order ys) (same ys)))
+        took_some (order xs) room count p (order ys) next (subst (IsPermutation (order xs)) split (IsPermutation-refl (order xs))) n
 
-    module _ (room count : ℕ) where
-      -- none was taken: there were none, and there are none
-      pub took_nothing : None ≡ head_of (order xs) → Took (meaning_of xs room count) None (meaning_of ys room count)
-      took_nothing e =
-          let no = headless (order xs) e in
-          let before = none_there xs no in
-          let after = none_there ys (rest ∙ ap tail_of no) in
-          (ap occurs before, ap (λ l. meaning_of l room count) (after ∙ sym before))
+module _ (order : List ℕ → List ℕ) (same : (xs : List ℕ) → IsPermutation xs (order xs)) where
+  -- no places, in the row or in the order
+  pub none_ordered : (xs : List ℕ) → xs ≡ [] → order xs ≡ []
+  none_ordered xs e = nil_from_length (order xs) (length_permutation xs (order xs) (same xs) ∙ ap length e)
 
-      -- the next was taken
-      pub took_next : (p next : ℕ) → Some p ≡ head_of (order xs) → next ≡ counted count → Took (meaning_of xs room count) (Some p) (meaning_of ys room next)
-      took_next p next e n = took_some xs room count p ys next (next_left p e) n
+  module _ (xs : List ℕ) (e : xs ≡ []) where
+    pub none_inside : Inside (occurs (order xs))
+    none_inside v h = ap (λ l. occurs l v) (none_ordered xs e)
+
+    pub none_few : length (order xs) ≤ 128
+    none_few = let none = ap length (none_ordered xs e) in omega arith
+
+    pub none_means : (count : ℕ) → count ≡ 0 → meaning_of (order xs) 128 count ≡ fresh 128
+    none_means count z = λ i. meaning_of (none_ordered xs e i) 128 (z i)
+
+  -- as many wait as the row has
+  pub waiting_ordered : (xs : List ℕ) → Inside (occurs (order xs)) → waiting_below 128 (occurs (order xs)) ≡ length xs
+  waiting_ordered xs h = waiting_occurs (order xs) h ∙ length_permutation xs (order xs) (same xs)
+
+  -- a place that joins behind the last joins the order, wherever
+  pub joined_ordered : (xs ys : List ℕ) (p : ℕ) → ys ≡ xs ++ p ∷ [] → IsPermutation (p ∷ order xs) (order ys)
+  joined_ordered xs ys p e =
+      let back = IsPermutation-cons p (order xs) xs (IsPermutation-sym xs (order xs) (same xs)) in
+      IsPermutation-trans (p ∷ order xs) (p ∷ xs) (order ys) back (IsPermutation-trans (p ∷ xs) ys (order ys) (joined_last xs ys p e) (same ys))

@@ -11,4 +11,4 @@ queue {G = G} p = G.order p.row
 
 -- What it means: these places wait, and there is room for 128.
 abbrev pub queue_meaning : {E : _} {G : _} → Queue E G → Meaning
-queue_meaning p = meaning_of p.row 128 p.count.number
+queue_meaning p = meaning_of (queue p) 128 p.count.number

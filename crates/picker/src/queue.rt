@@ -1,4 +1,5 @@
 // The pickers that take the place that has waited longest, and the one that was put last.
+ghost use Rattle.std.specs.Prelude.{◌≤◌, length};
 ghost use Rattle.picker.specs.Meaning.{Inside, occurs};
 
 use crate::count::Count;
@@ -14,7 +15,8 @@ pub struct Queue<E: End> {
     row: Ring,
     count: Count,
     end: PhantomData<E>,
-    ghost inside: { Inside (occurs row) },
+    pub ghost inside: { Inside (occurs (E.order row)) },
+    pub ghost few: { length (E.order row) ≤ 128 },
 }
 
 // The place that has waited longest is taken first.
@@ -59,7 +61,7 @@ impl<E: End> Picker for Queue<E> {
         self.count = Count::new();
     }
 
-    #[tactic(auto, using(crate::proofs::Listed::waiting_occurs))]
+    #[tactic(auto, using(crate::proofs::Queued::waiting_ordered))]
     fn put(&mut self, place: u8, _amount: u32) -> Result<(), PutFault>
         ensures answer { result ≡ put_answer (queue_meaning self.old) place }
         ensures meaning { queue_meaning self.new ≡ put_to (queue_meaning self.old) place }
@@ -90,7 +92,7 @@ impl<E: End> Picker for Queue<E> {
         self.count.number
     }
 
-    #[tactic(auto, using(crate::proofs::Listed::waiting_occurs))]
+    #[tactic(auto, using(crate::proofs::Queued::waiting_ordered))]
     fn waiting(&self) -> usize {
         self.row.len()
     }

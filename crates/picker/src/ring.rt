@@ -8,7 +8,8 @@ use std::marker::Model;
 pub const ROOM: usize = 128;
 
 // A row of at most 128 places, in a ring: it begins at index `first`, and goes on at index 0 after index 127. It has
-// memory of its own, where the queues of the libraries allocate.
+// memory of its own, where `VecDeque` and `circular_buffer` allocate, and moves no place, where taking the first out of
+// an `arrayvec` moves all others.
 #[derive(Drop)]
 pub struct Ring {
     slots: [u8; ROOM],

@@ -1,11 +1,11 @@
 -- What taking fields one after the other says about the questions on them.
-use Rattle.std.proofs.Common.{◌≡◌, ℕ, ◌+◌, ◌^◌, ◌<◌, ◌≤◌, Bool, true, false, cond, ◌&&◌, leb, ltb, List, [], ◌∷◌, ◌++◌, length, get_or, take, drop, set, map, sum_by, Some, Ok, Err, Option, refl, sym, subst, ap, ◌∙◌, ap₂, add-zero, arith}
+use Rattle.std.proofs.Common.{◌≡◌, ℕ, ◌+◌, ◌^◌, ◌<◌, Bool, true, false, cond, ◌&&◌, leb, ltb, List, [], ◌∷◌, ◌++◌, length, get_or, take, drop, set, map, sum_by, Some, Ok, Err, Option, refl, sym, subst, ap, ◌∙◌, ap₂, arith}
 use Rattle.std.proofs.lemmas.Bool.{lt-ltb}
-use Rattle.std.proofs.lemmas.List.{drop_more, drop_all, take_more, take_all, take_more_set, map-append}
+use Rattle.std.proofs.lemmas.List.{drop_more, take_more, take_more_set, map-append}
 use Rattle.std.proofs.lemmas.List.Sums.{sum_by_push}
-use Rattle.board.specs.Questions.{first_no, answer}
+use Rattle.board.specs.Questions.{first_no}
 use Rattle.bits.specs.Reading.{moved}
-use Rattle.sheet.specs.Taking.{InTurn, fields_answer}
+use Rattle.sheet.specs.Taking.{InTurn}
 use Rattle.bits.proofs.Bits.{length_bits_of}
 use Rattle.bits.proofs.Fields.{width_le, offset_le}
 use Rattle.bits.specs.Bits.{bits_of, held}
@@ -64,10 +64,6 @@ pub record Taking (c : Cursor) (fs : List Field) (k : ℕ) (now : Cursor) (numbe
   pub left : first_no (field_questions (bits_of c.bytes) c.position (drop k fs)) ≡ first_no (field_questions (bits_of c.bytes) c.position fs)
   pub taken_so_far : take k numbers ≡ map (stating (bits_of c.bytes) c.position) (take k fs)
 
-pub taking_none : (c : Cursor) (fs : List Field) (numbers : List ℕ) → InTurn 0 fs → Taking c fs 0 c numbers
-taking_none c fs numbers t =
-    record { reader = ap (λ (x : ℕ). cursor c.bytes x) (sym (add-zero c.position)); turn = t; left = refl; taken_so_far = refl }
-
 module _ (c : Cursor) (fs : List Field) (k : ℕ) (now : Cursor) (numbers : List ℕ) (d : Field) (so_far : Taking c fs k now numbers) where
   module _ (small : c.position < 2 ^ 32) (inside : k < length fs) where
     abbrev here : Field
@@ -112,12 +108,3 @@ module _ (c : Cursor) (fs : List Field) (k : ℕ) (now : Cursor) (numbers : List
               take_more_set numbers k n (omega arith) ∙ ap₂ (λ (xs : List ℕ) (x : ℕ). xs ++ x ∷ []) so_far.taken_so_far h.1
               ∙ sym (ap (map f) (take_more fs k d inside) ∙ map-append f (take k fs) (here ∷ []));
         }
-
-  pub taking_all : length fs ≤ k → length numbers ≡ length fs → (Ok numbers ≡ fields_answer c fs) × (now ≡ moved c (sum_by width fs))
-  taking_all h same =
-      let all = take_all k fs h in
-      let numbers_are = sym (take_all k numbers (omega arith)) ∙ so_far.taken_so_far ∙ ap (map (stating (bits_of c.bytes) c.position)) all in
-      let none = sym so_far.left ∙ ap (λ (x : List Field). first_no (field_questions (bits_of c.bytes) c.position x)) (drop_all k fs h) in (
-        ap Ok numbers_are ∙ ap (λ (o : Option BitFault). answer o (map (stating (bits_of c.bytes) c.position) fs)) (sym none),
-        so_far.reader ∙ ap (λ (x : List Field). moved c (sum_by width x)) all,
-      )

@@ -5,8 +5,9 @@
 --   put_bits     the bits of the buffer after that
 --   SameFrom     the bytes from one on are what they were
 --   Placed       bytes before and after bits were written over them
+--   HasRoom      whether a writer has room for so many bits
 --   Wrote        a writer before and after it wrote bits
-use Rattle.std.specs.Prelude.{◌≡◌, ℕ, ◌+◌, ◌-◌, ◌*◌, ◌/◌, ◌%◌, ◌^◌, ◌≤◌, Bool, cond, List, length, drop, Ok, Err, Result}
+use Rattle.std.specs.Prelude.{◌≡◌, ℕ, ◌+◌, ◌-◌, ◌*◌, ◌/◌, ◌%◌, ◌^◌, ◌≤◌, Bool, true, cond, List, length, drop, Ok, Err, Result}
 use Rattle.bits.specs.Bits.{digits, bits_of, within, written}
 use Rattle.bits.specs.declared.fault.BitFault.{BitFault}
 use Rattle.sheet.specs.declared.writer.BitWriter.{BitWriter}
@@ -38,6 +39,10 @@ pub record Placed (before : List ℕ) (p : ℕ) (new after : List ℕ) : Type 0 
   pub bits : bits_of after ≡ written (bits_of before) p new
   pub later : SameFrom (bytes_to (p + length new)) before after
   pub as_long : length after ≡ length before
+
+-- The next n bits from where a writer stands are all in its buffer.
+abbrev pub HasRoom : BitWriter → ℕ → Type 0
+HasRoom w n = within (8 * length w.buffer.now) w.position n ≡ true
 
 -- A writer wrote bits from where it stood: they are placed there, it stands behind them, and its buffer is the one that
 -- was lent.

@@ -1,12 +1,11 @@
 // A valid board, checked before it is written.
-ghost use Rattle.std.specs.Prelude.{◌≡◌, ℕ, ◌+◌, ◌*◌, ◌<◌, ◌≤◌, true, length, pos, ◌≤ℤ◌, slice_index_or};
+ghost use Rattle.std.specs.Prelude.{◌≡◌, ℕ, ◌+◌, ◌<◌, ◌≤◌, length, pos, ◌≤ℤ◌, slice_index_or};
 ghost use Rattle.board.specs.Board.{ValidShape, ValidRoute};
 ghost use Rattle.board.specs.Questions.{first_no, answer, route_questions, map_ok};
-ghost use Rattle.bits.specs.Bits.{within};
 ghost use Rattle.bits.specs.Signed.{Fits13};
 ghost use Rattle.layout.specs.Format.{header_bits, record_bits, sheet_bits, sheet_length};
 ghost use Rattle.sheet.specs.Saving.{board_with, routes_questions, board_questions};
-ghost use Rattle.sheet.specs.Writing.{Wrote};
+ghost use Rattle.sheet.specs.Writing.{HasRoom, Wrote};
 
 use crate::limits::ROUTE_LIMIT;
 use crate::writer::BitWriter;
@@ -77,13 +76,13 @@ impl<'a> Checked<'a> {
     pub(crate) fn sheet_length(&self) -> usize
         ensures { result ≡ sheet_length (length (board_of self.now).routes) }
     {
-        (record_start(self.routes.len() as u16) + 7) / 8
+        record_start(self.routes.len() as u16).div_ceil(8)
     }
 
     // Writes the header: the frame, and how many routes there are.
     #[tactic(auto, using(bits::proofs::Bits::length_digits))]
     fn write_header(&self, writer: &mut BitWriter)
-        requires { within (8 * length writer.old.buffer.now) writer.old.position 32 ≡ true }
+        requires { HasRoom writer.old 32 }
         ensures wrote { Wrote writer.old (header_bits (board_of self.now)) writer.new }
         ensures shape { ValidShape (board_of self.now).shape }
     {
@@ -112,7 +111,7 @@ impl<'a> Checked<'a> {
 fn write_record(writer: &mut BitWriter, route: Route)
     requires floor { Fits13 route.floor }
     requires ceiling { pos 0 ≤ℤ route.ceiling }
-    requires room { within (8 * length writer.old.buffer.now) writer.old.position 39 ≡ true }
+    requires room { HasRoom writer.old 39 }
     ensures { Wrote writer.old (record_bits route) writer.new }
 {
     writer.place(Field::Start, u16::from(route.start));

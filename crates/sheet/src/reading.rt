@@ -50,6 +50,7 @@ fn take_four(reader: &mut BitReader, fields: [Field; 4]) -> Result<[u16; 4], Bit
     requires turn { InTurn 0 fields }
     ensures answer { result ≡ fields_answer reader.old fields }
     ensures reader { OnOk result (reader.new ≡ moved reader.old (sum_by width fields)) }
+    ensures bytes { reader.new.bytes ≡ reader.old.bytes }
 {
     let mut numbers = [0; 4];
     for (k, field) in fields.iter().enumerate() {
@@ -63,6 +64,7 @@ fn read_header(reader: &mut BitReader, entries: usize) -> Result<Header, SheetFa
     requires { reader.old.position ≡ 0 }
     ensures answer { map_ok stated_of result ≡ answer (first_no (header_questions entries (bits_of reader.old.bytes))) (stated_header (bits_of reader.old.bytes)) }
     ensures reader { OnOk result (reader.new ≡ moved reader.old 32) }
+    ensures bytes { reader.new.bytes ≡ reader.old.bytes }
 {
     let [places, home, port, routes] = take_four(reader, HEADER)?;
     let frame = Frame::new(usize::from(places), usize::from(home), usize::from(port))?;
@@ -92,6 +94,7 @@ fn check_record(reader: &mut BitReader, frame: &Frame, route: u16) -> Result<(),
     requires { reader.old.position ≡ record_start route }
     ensures answer { result ≡ answer (first_no (record_questions (bits_of reader.old.bytes) frame.now route)) tt }
     ensures reader { OnOk result (reader.new ≡ moved reader.old 39) }
+    ensures bytes { reader.new.bytes ≡ reader.old.bytes }
 {
     let numbers = take_four(reader, RECORD)?;
     order_route(frame, route, numbers)?;
@@ -120,7 +123,7 @@ fn check_end(bytes: &[u8], routes: u16) -> Result<(), SheetFault>
     ensures { result ≡ answer (first_no (end_questions (bits_of bytes.now) routes)) tt }
 {
     let end = record_start(routes);
-    if bytes.len() > (end + 7) / 8 {
+    if bytes.len() > end.div_ceil(8) {
         return Err(SheetFault::Trailing { routes });
     }
     if end % 8 == 0 {
@@ -132,6 +135,7 @@ fn check_end(bytes: &[u8], routes: u16) -> Result<(), SheetFault>
     }
     Err(SheetFault::Padding {
         routes,
+        // at most 8, and nothing but `as` widens 32 bits to an index
         bit: end - end % 8 + rest.leading_zeros() as usize,
     })
 }

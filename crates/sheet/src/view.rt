@@ -18,8 +18,8 @@ use board::route::Route;
 #[derive(Clone, Copy)]
 pub struct Sheet<'a> {
     pub(crate) bytes: &'a [u8],
-    ghost valid: { ∥ Valid (stated (bits_of bytes.now)) ∥₁ },
-    ghost sheet: { IsSheet (stated (bits_of bytes.now)) bytes.now },
+    pub ghost valid: { ∥ Valid (stated (bits_of bytes.now)) ∥₁ },
+    pub ghost sheet: { IsSheet (stated (bits_of bytes.now)) bytes.now },
 }
 
 impl<'a> Sheet<'a> {

@@ -1,8 +1,8 @@
 // Writing fields into a lent buffer.
 ghost use Rattle.std.specs.Prelude.{◌≡◌, ◌+◌, ◌*◌, ◌/◌, ◌^◌, ◌<◌, ◌≤◌, true, false, length, is_ok, if◌then◌else◌};
-ghost use Rattle.bits.specs.Bits.{bits_of, digits, within};
+ghost use Rattle.bits.specs.Bits.{bits_of, digits};
 ghost use Rattle.bits.specs.Fields.{width};
-ghost use Rattle.sheet.specs.Writing.{bytes_to, window_of, put_answer, put_bits, SameFrom, Placed, Wrote};
+ghost use Rattle.sheet.specs.Writing.{bytes_to, window_of, put_answer, put_bits, SameFrom, Placed, HasRoom, Wrote};
 
 use bits::fault::BitFault;
 use bits::field::{Field, end_of};
@@ -69,16 +69,15 @@ impl<'a> BitWriter<'a> {
         ensures length { length self.new.buffer.now ≡ length self.old.buffer.now }
         ensures same { self.new.buffer.ghost_name ≡ self.old.buffer.ghost_name }
     {
-        if end_of(field, self.position, self.buffer.len()).is_none() {
-            return Err(BitFault { bit: self.position });
-        }
+        let bit = self.position;
+        end_of(field, bit, self.buffer.len()).ok_or(BitFault { bit })?;
         self.place(field, value);
         Ok(())
     }
 
     // Writes a field whose bits all fit, as `put` does.
     pub(crate) fn place(&mut self, field: Field, value: u16)
-        requires { within (8 * length self.old.buffer.now) self.old.position (width field) ≡ true }
+        requires { HasRoom self.old (width field) }
         ensures { Wrote self.old (digits (width field) value) self.new }
     {
         let start = self.position;

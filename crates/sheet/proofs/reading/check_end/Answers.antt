@@ -5,8 +5,8 @@ use Rattle.board.specs.Questions.{answer}
 use Rattle.sheet.proofs.Ends.{trailing, whole_bytes, padded, unpadded}
 use Rattle.sheet.proofs.reading.check_end.Goals as goal
 
-pub returns-then-bytes-end : goal.returns-then-bytes-end
-returns-then-bytes-end c =
+pub returns-then-bytes-div_ceil : goal.returns-then-bytes-div_ceil
+returns-then-bytes-div_ceil c =
     ap (λ x. answer x tt)
     (sym (trailing c.args.bytes.now c.args.routes c.record_start-end.result c.record_start-end.ensures (omega arith) (omega arith)))
 
@@ -15,7 +15,7 @@ returns-then-end-eq0 c =
     ap (λ x. answer x tt)
     (sym
     (whole_bytes c.args.bytes.now c.args.routes c.record_start-end.result c.record_start-end.ensures (omega arith)
-    c.if-bytes-end.false c.if-end-eq0.true))
+    (omega (arith, c.if-bytes-div_ceil.false, c.div_ceil.ensures)) c.if-end-eq0.true))
 
 -- a shift by at most 7 within a byte
 power : (p : ℕ) → (p % 8 ≡ 0 → ⊥) → (1 * 2 ^ (8 - p % 8)) % 256 ≡ 2 ^ (8 - p % 8)
@@ -25,12 +25,12 @@ pub returns-then-rest-eq0 : goal.returns-then-rest-eq0
 returns-then-rest-eq0 c =
     ap (λ x. answer x tt)
     (sym
-    (padded c.args.bytes.now c.args.routes c.record_start-end.result c.record_start-end.ensures (omega arith) c.if-bytes-end.false
+    (padded c.args.bytes.now c.args.routes c.record_start-end.result c.record_start-end.ensures (omega arith) (omega (arith, c.if-bytes-div_ceil.false, c.div_ceil.ensures))
     c.if-end-eq0.false _ (power c.record_start-end.result c.if-end-eq0.false) c.if-rest-eq0.true))
 
 pub returns : goal.returns
 returns c =
     ap (λ x. answer x tt)
     (sym
-    (unpadded c.args.bytes.now c.args.routes c.record_start-end.result c.record_start-end.ensures (omega arith) c.if-bytes-end.false
+    (unpadded c.args.bytes.now c.args.routes c.record_start-end.result c.record_start-end.ensures (omega arith) (omega (arith, c.if-bytes-div_ceil.false, c.div_ceil.ensures))
     c.if-end-eq0.false _ (power c.record_start-end.result c.if-end-eq0.false) (omega (arith, c.if-rest-eq0.false))))

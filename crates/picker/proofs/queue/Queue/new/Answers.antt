@@ -1,5 +1,12 @@
-use Rattle.picker.proofs.Queued.{none_ordered}
+use Rattle.picker.proofs.Queued.{none_ordered, none_inside, none_few, none_means}
 use Rattle.picker.proofs.queue.Queue.new.Goals as goal
+
+pub invariant_of-result : goal.invariant_of-result
+invariant_of-result g c =
+    record { inside = none_inside g.E.End.order g.met.E.End.same _ c.new.ensures; few = none_few g.E.End.order g.met.E.End.same _ c.new.ensures }
+
+pub returns-clause-meaning : goal.returns-clause-meaning
+returns-clause-meaning g c = none_means g.E.End.order g.met.E.End.same _ c.new.ensures _ c.new-2.ensures
 
 pub returns-clause-queue : goal.returns-clause-queue
 returns-clause-queue g c = none_ordered g.E.End.order g.met.E.End.same _ c.new.ensures
