@@ -43,6 +43,7 @@ pub fn field_at(bytes: &[u8], start: usize, field: Field) -> u16
     let low = byte_at(bytes, index + 2);
     let window = u32::from_be_bytes([0, high, middle, low]);
     let shifted = window >> (24 - start % 8 - width);
+    // at most 16 bits are left: `try_from` would bring an error that cannot come
     (shifted & ((1 << width) - 1)) as u16
 }
 

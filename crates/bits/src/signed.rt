@@ -6,6 +6,7 @@ ghost use Rattle.bits.specs.Signed.{narrowed_any, widened_any, SignedLosesNothin
 pub fn widen(field: u16) -> i16
     ensures { result ≡ widened_any field }
 {
+    // the sign is dropped where there is none, here and in `narrow`: `try_from` would bring an error that cannot come
     let low = (field % 8192) as i16;
     if low < 4096 { low } else { low - 8192 }
 }

@@ -45,6 +45,7 @@ impl Route {
         if !(-4095..=ceiling).contains(&floor) {
             return Err(RouteFault::FloorRange);
         }
+        // each fits, by the questions above: `try_from` would bring an error that cannot come
         Ok(Route {
             start: start as u8,
             end: end as u8,

@@ -12,5 +12,6 @@ const TRACK: [u32; 41] = [
 pub fn pay(delivery: i32) -> u32
     ensures { result ≡ pay_for delivery }
 {
+    // an index from 0 to 40: `try_from` would bring an error that cannot come
     TRACK[delivery.clamp(0, 40) as usize]
 }

@@ -47,6 +47,7 @@ fn largest_amount(rt: HostRuntime) {
 
 fn put_next<P: Picker>(rt: &impl Abort, picker: &mut P, state: u32) -> u32 {
     let next = state.wrapping_mul(75).wrapping_add(74) % 65537;
+    // below 11: `try_from` would bring an error that cannot come
     assert!(rt; picker.put((next % 11) as u8, next / 11 % 7).is_ok());
     next
 }

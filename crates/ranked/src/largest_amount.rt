@@ -27,7 +27,8 @@ impl<'e> LargestAmount<'e> {
     }
 }
 
-// The calls are those of what waits; what is promised of them is this picker's own, so it is a type of its own.
+// The calls are those of what waits, as of the picker by markers. One picker over a rule would be no plainer: that one
+// promises of places, this one of places with their amounts, so the rule would have to bring each clause and its law.
 impl<'e> Picker for LargestAmount<'e> {
     ghost use Rattle.std.specs.Prelude.{◌≡◌, []};
     ghost use Rattle.picker.specs.Meaning.{emptied, put_answer, put_to, Took};

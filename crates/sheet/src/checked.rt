@@ -50,6 +50,7 @@ fn check_routes(frame: &Frame, routes: &[Route]) -> Result<(), OrderFault>
     for (k, route) in routes.iter().enumerate() {
         if let Some(fault) = route_fault(frame, *route) {
             return Err(OrderFault {
+                // below 512: `try_from` would bring an error that cannot come, here and where the board is written
                 route: k as u16,
                 fault,
             });

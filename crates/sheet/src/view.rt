@@ -49,6 +49,7 @@ impl<'a> Sheet<'a> {
         ensures { result ≡ slice_get (board_of self.now).routes number }
     {
         if number < self.len() {
+            // so it fits in 16 bits: `try_from` would bring an error that cannot come
             Some(route_at(self.bytes, record_start(number as u16)))
         } else {
             None
@@ -81,6 +82,7 @@ fn route_at(bytes: &[u8], start: usize) -> Route
     requires { start < 2 ^ 32 }
     ensures { result ≡ route_at (bits_of bytes.now) start }
 {
+    // each is as narrow as its field: `try_from` would bring an error that cannot come
     Route {
         start: stating(bytes, start, Field::Start) as u8,
         end: stating(bytes, start, Field::End) as u8,

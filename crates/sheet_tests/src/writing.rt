@@ -57,6 +57,7 @@ fn refusals_write_nothing(rt: HostRuntime) -> Result<(), Fail> {
 
 // A route for each number, among 128 places.
 fn nth_route(number: u16) -> Route {
+    // small numbers: `try_from` would bring an error that cannot come
     let start = (number % 128) as u8;
     let ceiling = (number % 512) as i16 * 8;
     Route {
