@@ -1,3 +1,4 @@
+use Rattle.std.proofs.Common.{arith}
 use Rattle.picker.proofs.Queued.{none_ordered, none_inside, none_few, none_means}
 use Rattle.picker.proofs.queue.Queue.new.Goals as goal
 
@@ -6,7 +7,7 @@ invariant_of-result g c =
     record { inside = none_inside g.E.End.order g.met.E.End.same _ c.new.ensures; few = none_few g.E.End.order g.met.E.End.same _ c.new.ensures }
 
 pub returns-clause-meaning : goal.returns-clause-meaning
-returns-clause-meaning g c = none_means g.E.End.order g.met.E.End.same _ c.new.ensures _ c.new-2.ensures
+returns-clause-meaning g c = none_means g.E.End.order g.met.E.End.same _ c.new.ensures _ (omega arith)
 
 pub returns-clause-queue : goal.returns-clause-queue
 returns-clause-queue g c = none_ordered g.E.End.order g.met.E.End.same _ c.new.ensures
