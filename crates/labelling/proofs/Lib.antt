@@ -1,0 +1,2 @@
+-- Lemmas about labelling.
+pub mod Ways

@@ -1,0 +1,4 @@
+-- The specifications of labelling.
+pub mod Ways
+pub mod Labels
+pub mod Trying

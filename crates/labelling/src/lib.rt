@@ -1,0 +1,7 @@
+// Labelling: the search by which shares are changed along a path, for every picker.
+#![tactic(auto)]
+
+pub mod label;
+pub mod labels;
+mod reaching;
+pub mod way;
