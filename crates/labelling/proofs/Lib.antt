@@ -1,2 +1,5 @@
 -- Lemmas about labelling.
 pub mod Ways
+pub mod Joins
+pub mod Counts
+pub mod Scans

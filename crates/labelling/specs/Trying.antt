@@ -3,11 +3,20 @@
 --   is_goal     whether a place is a goal: it has a demand
 --   reached     what following one way does
 --   joined_by   a picker's meaning when places joined it
-use Rattle.std.specs.Prelude.{ℕ, ◌+◌, Bool, cond, List, [], ◌∷◌, Some, None, Option, is_some, nat_lt, slice_index_or}
+--   untouched   where nothing was done
+--   followed    what following a way does, if there is one
+--   then_on     one thing, and then another unless a goal was labelled
+--   scanned     what trying the routes from a place does
+--   Carries     routes of a frame, each with a share within its marks
+--   unlabelled  how many places have no label
+use Rattle.std.specs.Prelude.{ℕ, zero, suc, ◌+◌, ◌<◌, ◌≤◌, Bool, cond, List, [], ◌∷◌, ◌++◌, length, ℤ, pos, Some, None, Option, is_some, nat_lt, slice_index_or}
+use Rattle.board.specs.Board.{Shape, ValidShape, ValidRoute}
+use Rattle.board.specs.declared.route.Route.{Route}
 use Rattle.picker.specs.Meaning.{Meaning, occurs}
 use Rattle.labelling.specs.declared.label.Label.{Label}
 use Rattle.labelling.specs.declared.way.Way.{Way}
 use Rattle.labelling.specs.Labels.{label_of, labelled}
+use Rattle.labelling.specs.Ways.{Holds, way_on}
 
 -- The labels, the places that join those that wait, in order, and the goal that was labelled, if one was.
 pub record Tried : Type 0 where
@@ -30,3 +39,39 @@ reached demand ls w a =
 -- The same picker, in which these places wait too.
 abbrev pub joined_by : Meaning → List ℕ → Meaning
 joined_by m ps = record { waits = λ v. m.waits v + occurs ps v; room = m.room; count = m.count }
+
+-- Nothing was done.
+abbrev pub untouched : List (Option Label) → Tried
+untouched ls = record { labels = ls; joins = []; goal = None }
+
+-- Following a way, if there is one.
+abbrev pub followed : List ℕ → List (Option Label) → Option Way → ℕ → Tried
+followed demand ls None a = untouched ls
+followed demand ls (Some w) a = reached demand ls w a
+
+-- What was done, and then what comes of the labels, unless a goal was labelled.
+abbrev pub then_on : Tried → (List (Option Label) → Tried) → Tried
+then_on t on =
+    cond (is_some t.goal) t
+    (record { labels = (on t.labels).labels; joins = t.joins ++ (on t.labels).joins; goal = (on t.labels).goal })
+
+-- Trying each route from place p, which has amount a: the routes are those from number k on. The first goal ends it.
+unfoldable pub scanned : List ℕ → ℕ → ℕ → ℕ → List Route → List ℤ → List (Option Label) → Tried
+scanned demand p a k [] xs ls = untouched ls
+scanned demand p a k (r ∷ rs) [] ls = untouched ls
+scanned demand p a k (r ∷ rs) (x ∷ xs) ls =
+    then_on (followed demand ls (way_on p k r x) a) (scanned demand p a (k + 1) rs xs)
+
+-- At most 512 routes of a frame of this shape, and a share within its marks for each.
+pub record Carries (s : Shape) (rs : List Route) (xs : List ℤ) : Type 0 where
+  pub frame : ValidShape s
+  pub few : length rs ≤ 512
+  pub long : length rs ≤ length xs
+  pub each : (k : ℕ) → k < length rs → ValidRoute s (slice_index_or rs k (record { start = 0; end = 0; floor = pos 0; ceiling = pos 0 }))
+  pub within : (k : ℕ) → k < length rs
+      → Holds (slice_index_or rs k (record { start = 0; end = 0; floor = pos 0; ceiling = pos 0 })) (slice_index_or xs k (pos 0))
+
+-- How many of the places 0 to n - 1 have no label.
+unfoldable pub unlabelled : ℕ → List (Option Label) → ℕ
+unlabelled zero ls = 0
+unlabelled (suc n) ls = cond (is_some (label_of ls n)) 0 1 + unlabelled n ls

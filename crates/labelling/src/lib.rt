@@ -4,4 +4,5 @@
 pub mod label;
 pub mod labels;
 mod reaching;
+mod scanning;
 pub mod way;
