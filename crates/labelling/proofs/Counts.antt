@@ -1,5 +1,5 @@
 -- How many places have no label.
-use Rattle.std.proofs.Common.{◌≡◌, ℕ, zero, suc, ◌+◌, ◌<◌, ◌≤◌, Bool, true, false, min, cond, List, length, get_or, set, Some, None, Option, is_some, refl, ap, ◌∙◌, arith}
+use Rattle.std.proofs.Common.{◌≡◌, ℕ, zero, suc, ◌+◌, ◌<◌, ◌≤◌, Bool, true, false, min, List, length, set, Some, None, Option, refl, arith}
 use Rattle.std.proofs.lemmas.List.{get_or-set_same, get_or-set_other}
 use Rattle.labelling.specs.declared.label.Label.{Label}
 use Rattle.labelling.specs.Labels.{label_of}

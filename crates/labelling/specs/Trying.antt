@@ -9,10 +9,14 @@
 --   scanned     what trying the routes from a place does
 --   Carries     routes of a frame, each with a share within its marks
 --   unlabelled  how many places have no label
-use Rattle.std.specs.Prelude.{ℕ, zero, suc, ◌+◌, ◌<◌, ◌≤◌, Bool, cond, List, [], ◌∷◌, ◌++◌, length, ℤ, pos, Some, None, Option, is_some, nat_lt, slice_index_or}
+--   amount_of   the amount of a label, and 0 where there is none
+--   left_by     a picker's meaning when a place was taken out
+--   Examines    what examining a place may answer, and what it leaves
+use Rattle.std.specs.Prelude.{◌≡◌, ℕ, zero, suc, ◌+◌, ◌<◌, ◌≤◌, Bool, cond, List, [], ◌∷◌, ◌++◌, length, ℤ, pos, Some, None, Option, is_some, nat_lt, slice_index_or}
 use Rattle.board.specs.Board.{Shape, ValidShape, ValidRoute}
 use Rattle.board.specs.declared.route.Route.{Route}
-use Rattle.picker.specs.Meaning.{Meaning, occurs}
+use Rattle.picker.specs.Meaning.{Meaning, nowhere, less, counted, occurs}
+use Rattle.labelling.specs.declared.examining.Examined.{Examined}
 use Rattle.labelling.specs.declared.label.Label.{Label}
 use Rattle.labelling.specs.declared.way.Way.{Way}
 use Rattle.labelling.specs.Labels.{label_of, labelled}
@@ -75,3 +79,20 @@ pub record Carries (s : Shape) (rs : List Route) (xs : List ℤ) : Type 0 where
 unfoldable pub unlabelled : ℕ → List (Option Label) → ℕ
 unlabelled zero ls = 0
 unlabelled (suc n) ls = cond (is_some (label_of ls n)) 0 1 + unlabelled n ls
+
+-- The amount of a label; 0 where there is none.
+abbrev pub amount_of : Option Label → ℕ
+amount_of None = 0
+amount_of (Some l) = l.amount
+
+-- The same picker when place p was taken out of it.
+abbrev pub left_by : Meaning → ℕ → Meaning
+left_by m p = record { waits = less p m.waits; room = m.room; count = counted m.count }
+
+-- Examining: nothing where nothing waits, and then all stays. Otherwise a place that waits leaves, whichever it is, and
+-- the routes are tried from it: the labels, the goal and the places that join are those that trying them gives.
+abbrev pub Examines : List Route → List ℤ → List ℕ → Meaning → List (Option Label) → Option Examined → Meaning → List (Option Label) → Type 0
+Examines rs xs demand m ls None n ks = (m.waits ≡ nowhere) × (n ≡ m) × (ks ≡ ls)
+Examines rs xs demand m ls (Some e) n ks =
+    let t = scanned demand e.place (amount_of (label_of ls e.place)) 0 rs xs ls in
+    (0 < m.waits e.place) × (e.goal ≡ t.goal) × (ks ≡ t.labels) × (n ≡ joined_by (left_by m e.place) t.joins)
