@@ -4,10 +4,14 @@ use Rattle.std.proofs.lemmas.Bool.{eq-eqb, ne_eqb}
 use Rattle.std.proofs.lemmas.Int.{to_z-of_z, fits_signed_from_abs, ints}
 use Rattle.board.specs.Board.{Shape, ValidRoute}
 use Rattle.board.specs.declared.route.Route.{Route}
-use Rattle.labelling.specs.declared.label.Via.TheVariants.{Against}
+use Rattle.labelling.specs.declared.label.Via.TheVariants.{Along, Against}
 use Rattle.labelling.specs.declared.label.Via.{Via}
 use Rattle.labelling.specs.declared.way.Way.{Way}
 use Rattle.labelling.specs.Ways.{Holds, opened, way_on}
+
+-- A route that starts at the place leads on along it.
+pub along : (p k : ℕ) (r : Route) (x d : ℤ) → r.start ≡ p → d ≡ r.ceiling -ℤ x → opened r.end (Along k) d ≡ way_on p k r x
+along p k r x d s m = rw (eq-eqb r.start p s, m) refl
 
 -- A route that ends at the place leads on against it.
 pub against : (p k : ℕ) (r : Route) (x d : ℤ) → (r.start ≡ p → ⊥) → r.end ≡ p → d ≡ x -ℤ r.floor
