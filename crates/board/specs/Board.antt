@@ -1,11 +1,17 @@
 -- What a board is.
---   Board        the numbers of a frame and a list of routes: a flow network with lower bounds
+--   shape_of     the numbers of a frame
+--   Board        a shape and a list of routes: a flow network with lower bounds
 --   ValidRoute   what holds of every route of a frame
 --   Valid        a valid board: a frame and at most 512 routes of it
 use Rattle.std.specs.Prelude.{◌≡◌, ◌<◌, ◌≤◌, List, length, pos, negsuc, ◌≤ℤ◌}
 use Rattle.std.specs.List.{AllByRecursion}
 pub use Rattle.board.specs.Shape.{Shape, ValidShape}
+use Rattle.board.specs.declared.frame.Frame.{Frame}
 use Rattle.board.specs.declared.route.Route.{Route}
+
+-- The numbers that a frame has.
+abbrev pub shape_of : Frame → Shape
+shape_of f = record { places = f.places; home = f.home; port = f.port }
 
 -- A board: the numbers of its frame, and its routes in the order of their numbers, from 0 on.
 pub record Board : Type 0 where

@@ -1,36 +1,30 @@
 // The frame of a board.
-ghost use Rattle.std.specs.Prelude.{◌≡◌, is_ok, Decides};
-ghost use Rattle.board.specs.Board.{ValidShape};
-ghost use Rattle.board.specs.Questions.{frame_answer};
+ghost use Rattle.std.specs.Prelude.{◌≡◌, ◌<◌, ◌≤◌, ◌≢◌, is_ok, Decides};
 
 use crate::fault::FrameFault;
-use std::marker::Model;
 
 // How many places (nodes) a board has, which of them is home (the source) and which is port (the sink).
-// Places are numbered from 0. In a clause a frame is the shape of these three numbers, and a valid one.
+// Places are numbered from 0. (No model: it would hide from callers what the ghost fields say, and a `Copy` struct that
+// holds a frame could not be used twice.)
 #[derive(Clone, Copy, PartialEq, Eq, Debug)]
 pub struct Frame {
     places: usize,
     home: usize,
     port: usize,
-}
-
-impl Model for Frame {
-    ghost use Rattle.board.specs.Shape.{Shape, ValidShape};
-
-    ghost Value = { Shape };
-
-    ghost view = { λ f. record { places = f.places; home = f.home; port = f.port } };
-
-    ghost invariant = { λ f. ValidShape (record { places = f.places; home = f.home; port = f.port }) };
-
-    ghost inverse = { λ s. record { places = s.places; home = s.home; port = s.port } };
+    ghost several: { 2 ≤ places },
+    ghost few: { places ≤ 128 },
+    ghost home_inside: { home < places },
+    ghost port_inside: { port < places },
+    ghost apart: { (port ≢ home) },
 }
 
 impl Frame {
+    ghost use Rattle.board.specs.Board.{shape_of, ValidShape};
+    ghost use Rattle.board.specs.Questions.{map_ok, frame_answer};
+
     // The frame with just these three numbers, or the first question that gets a no.
     pub fn new(places: usize, home: usize, port: usize) -> Result<Frame, FrameFault>
-        ensures answer { result ≡ frame_answer places home port }
+        ensures answer { map_ok shape_of result ≡ frame_answer places home port }
         ensures valid { Decides (is_ok result) (ValidShape (record { places = places; home = home; port = port })) }
     {
         if !(2..=128).contains(&places) {
@@ -46,20 +40,20 @@ impl Frame {
     }
 
     pub fn places(&self) -> usize
-        ensures value { result ≡ self.now.places }
-        ensures valid { ValidShape self.now }
+        ensures value { result ≡ (shape_of self.now).places }
+        ensures valid { ValidShape (shape_of self.now) }
     {
         self.places
     }
 
     pub fn home(&self) -> usize
-        ensures { result ≡ self.now.home }
+        ensures { result ≡ (shape_of self.now).home }
     {
         self.home
     }
 
     pub fn port(&self) -> usize
-        ensures { result ≡ self.now.port }
+        ensures { result ≡ (shape_of self.now).port }
     {
         self.port
     }

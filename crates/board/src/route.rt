@@ -1,6 +1,6 @@
 // A route of a board.
 ghost use Rattle.std.specs.Prelude.{◌≡◌, is_ok, Decides};
-ghost use Rattle.board.specs.Board.{ValidRoute};
+ghost use Rattle.board.specs.Board.{shape_of, ValidRoute};
 ghost use Rattle.board.specs.Questions.{route_answer};
 
 use crate::fault::RouteFault;
@@ -26,8 +26,8 @@ impl Route {
         floor: i32,
         ceiling: i32,
     ) -> Result<Route, RouteFault>
-        ensures answer { result ≡ route_answer frame.now start end floor ceiling }
-        ensures valid { Decides (is_ok result) (ValidRoute frame.now (record { start = start; end = end; floor = floor; ceiling = ceiling })) }
+        ensures answer { result ≡ route_answer (shape_of frame.now) start end floor ceiling }
+        ensures valid { Decides (is_ok result) (ValidRoute (shape_of frame.now) (record { start = start; end = end; floor = floor; ceiling = ceiling })) }
     {
         let places = frame.places();
         if start >= places {

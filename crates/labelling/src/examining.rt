@@ -1,5 +1,6 @@
 // Examining one place, for every picker.
 ghost use Rattle.std.specs.Prelude.{◌≡◌, ◌≤◌, ◌+◌};
+ghost use Rattle.board.specs.Board.{shape_of};
 ghost use Rattle.picker.specs.Meaning.{waiting};
 ghost use Rattle.labelling.specs.Trying.{Examines, unlabelled};
 
@@ -22,7 +23,7 @@ pub(crate) fn examine<P: Picker>(
     labels: &mut [Option<Label>; PLACES],
     picker: &mut P,
 ) -> Option<Examined>
-    requires room { waiting (P.meaning picker.old) + unlabelled carried.now.frame.now.places labels.old ≤ (P.meaning picker.old).room }
+    requires room { waiting (P.meaning picker.old) + unlabelled (shape_of carried.now.frame.now).places labels.old ≤ (P.meaning picker.old).room }
     ensures { Examines carried.now.routes.now carried.now.shares.now demand.now (P.meaning picker.old) labels.old result (P.meaning picker.new) labels.new }
 {
     let place = picker.take()?;

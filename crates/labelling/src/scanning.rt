@@ -1,5 +1,6 @@
 // Trying the routes that touch a place, in order of their numbers, for every picker.
 ghost use Rattle.std.specs.Prelude.{◌≡◌, ◌<◌, ◌≤◌, ◌+◌, length};
+ghost use Rattle.board.specs.Board.{shape_of};
 ghost use Rattle.picker.specs.Meaning.{waiting};
 ghost use Rattle.labelling.specs.Trying.{Carries, joined_by, scanned, unlabelled};
 
@@ -24,7 +25,7 @@ pub struct Carried<'a> {
     pub frame: &'a Frame,
     pub routes: &'a [Route],
     pub shares: &'a [i32],
-    pub ghost carries: { Carries frame.now routes.now shares.now },
+    pub ghost carries: { Carries (shape_of frame.now) routes.now shares.now },
 }
 
 // Tries each route from a place: the place to which it leads on is labelled, if it is not yet. Ends at the first goal
@@ -36,7 +37,7 @@ pub(crate) fn scan<P: Picker>(
     labels: &mut [Option<Label>; PLACES],
     picker: &mut P,
 ) -> Option<u8>
-    requires room { waiting (P.meaning picker.old) + unlabelled carried.now.frame.now.places labels.old ≤ (P.meaning picker.old).room }
+    requires room { waiting (P.meaning picker.old) + unlabelled (shape_of carried.now.frame.now).places labels.old ≤ (P.meaning picker.old).room }
     ensures goal { result ≡ (scanned demand.now from.place from.amount 0 carried.now.routes.now carried.now.shares.now labels.old).goal }
     ensures labels { labels.new ≡ (scanned demand.now from.place from.amount 0 carried.now.routes.now carried.now.shares.now labels.old).labels }
     ensures meaning { P.meaning picker.new ≡ joined_by (P.meaning picker.old) (scanned demand.now from.place from.amount 0 carried.now.routes.now carried.now.shares.now labels.old).joins }

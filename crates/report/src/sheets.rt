@@ -1,5 +1,6 @@
 // A sheet in words: the board that it states, or why it is refused.
 ghost use Rattle.std.specs.Prelude.{◌≡◌, ◌++◌, IfOk, string_bytes, OnOk};
+ghost use Rattle.board.specs.Board.{shape_of};
 ghost use Rattle.sheet.specs.View.{board_of};
 ghost use Rattle.report.specs.Text.{refused_line, frame_lines, route_line, route_lines, board_text, described};
 
@@ -21,7 +22,7 @@ pub fn refused(heap: Global, fault: SheetFault) -> Result<String, AllocError>
 
 // The lines for a frame.
 fn frame_lines(heap: Global, frame: &Frame) -> Result<String, AllocError>
-    ensures { IfOk result (λ s. string_bytes s ≡ frame_lines frame.now) }
+    ensures { IfOk result (λ s. string_bytes s ≡ frame_lines (shape_of frame.now)) }
 {
     let places = frame.places();
     let home = frame.home();

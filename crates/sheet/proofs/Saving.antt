@@ -3,10 +3,11 @@ use Rattle.std.proofs.Common.{◌≡◌, ℕ, suc, ◌<◌, ◌≤◌, true, fal
 use Rattle.std.proofs.lemmas.Bool.{le-leb, lt-leb, cases_lt, true≢false}
 use Rattle.std.specs.Result.{result_err}
 use Rattle.std.specs.List.{AllByRecursion}
-use Rattle.board.specs.Board.{Board, Shape, Valid, ValidShape, ValidRoute}
+use Rattle.board.specs.Board.{Board, Shape, shape_of, Valid, ValidShape, ValidRoute}
 use Rattle.board.proofs.First.{first_some, first_none, first_parts, some_handed, all_handed, handed_no, handed_on, none_handed}
 use Rattle.board.specs.Questions.{Question, first_no, handed_up, answer, route_questions}
 use Rattle.board.specs.declared.fault.RouteFault.{RouteFault}
+use Rattle.board.specs.declared.frame.Frame.{Frame}
 use Rattle.board.specs.declared.route.Route.{Route}
 use Rattle.board.proofs.Valid.{route_valid, route_accepted}
 use Rattle.layout.specs.Format.{sheet_length}
@@ -64,6 +65,17 @@ board_order b o h first = rw (le-leb (length b.routes) 512 h, some_handed Order 
 pub board_accepted : (b : Board) → length b.routes ≤ 512 → first_no (routes_questions b.shape 0 b.routes) ≡ None → first_no (board_questions b) ≡ None
 unfolding board_questions
 board_accepted b h each = rw (le-leb (length b.routes) 512 h, all_handed Order (routes_questions b.shape 0 b.routes) each)
+
+-- the numbers of a frame
+pub frame_shape : (f : Frame) → ValidShape (shape_of f)
+frame_shape f =
+    record {
+      several = f.several;
+      few = f.few;
+      home_inside = f.home_inside;
+      port_inside = f.port_inside;
+      apart = f.apart;
+    }
 
 -- a board that gets a yes each is valid
 board_valid : (b : Board) → ValidShape b.shape → first_no (board_questions b) ≡ None → Valid b

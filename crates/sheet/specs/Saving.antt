@@ -7,8 +7,9 @@
 --   Writable           a valid board, and room for its sheet
 --   write_answer       how long the sheet is, or the fault of the first question that gets a no
 use Rattle.std.specs.Prelude.{ℕ, suc, ◌≤◌, List, [], ◌∷◌, ◌++◌, length, Result, nat_le}
-use Rattle.board.specs.Board.{Board, Shape, Valid}
+use Rattle.board.specs.Board.{Board, Shape, Valid, shape_of}
 use Rattle.board.specs.Questions.{Question, first_no, handed_up, answer, route_number}
+use Rattle.board.specs.declared.frame.Frame.{Frame}
 use Rattle.board.specs.declared.route.Route.{Route}
 use Rattle.layout.specs.Format.{sheet_length}
 use Rattle.layout.specs.Questions.{order_questions}
@@ -22,9 +23,9 @@ write_number RouteLimit = 52
 write_number (Order o) = route_number o.fault
 write_number Buffer = 61
 
--- The board with a frame of this shape and these routes.
-abbrev pub board_with : Shape → List Route → Board
-board_with s rs = record { shape = s; routes = rs }
+-- The board with the shape of a frame and these routes.
+abbrev pub board_with : Frame → List Route → Board
+board_with f rs = record { shape = shape_of f; routes = rs }
 
 -- Is each of these routes, from route k on, a route of the shape?
 unfoldable pub routes_questions : Shape → ℕ → List Route → List (Question OrderFault)

@@ -1,6 +1,6 @@
 // A valid board, checked before it is written.
 ghost use Rattle.std.specs.Prelude.{◌≡◌, ℕ, ◌+◌, ◌<◌, ◌≤◌, length, pos, ◌≤ℤ◌, slice_index_or};
-ghost use Rattle.board.specs.Board.{ValidShape, ValidRoute};
+ghost use Rattle.board.specs.Board.{shape_of, ValidShape, ValidRoute};
 ghost use Rattle.board.specs.Questions.{first_no, answer, route_questions, map_ok};
 ghost use Rattle.bits.specs.Signed.{Fits13};
 ghost use Rattle.layout.specs.Format.{header_bits, record_bits, sheet_bits, sheet_length};
@@ -23,12 +23,12 @@ pub(crate) struct Checked<'a> {
     frame: &'a Frame,
     routes: &'a [Route],
     ghost few: { length routes.now ≤ 512 },
-    ghost each: { (k : ℕ) → k < length routes.now → ValidRoute frame.now (slice_index_or routes.now k (record { start = 0; end = 0; floor = pos 0; ceiling = pos 0 })) },
+    ghost each: { (k : ℕ) → k < length routes.now → ValidRoute (shape_of frame.now) (slice_index_or routes.now k (record { start = 0; end = 0; floor = pos 0; ceiling = pos 0 })) },
 }
 
 // Why a route is none of the frame, if it is none.
 fn route_fault(frame: &Frame, route: Route) -> Option<RouteFault>
-    ensures { result ≡ first_no (route_questions frame.now route) }
+    ensures { result ≡ first_no (route_questions (shape_of frame.now) route) }
 {
     let start = usize::from(route.start);
     let end = usize::from(route.end);
@@ -45,7 +45,7 @@ fn route_fault(frame: &Frame, route: Route) -> Option<RouteFault>
 // The first route that is none of the frame, and why.
 fn check_routes(frame: &Frame, routes: &[Route]) -> Result<(), OrderFault>
     requires { length routes.now ≤ 512 }
-    ensures { result ≡ answer (first_no (routes_questions frame.now 0 routes.now)) tt }
+    ensures { result ≡ answer (first_no (routes_questions (shape_of frame.now) 0 routes.now)) tt }
 {
     for (k, route) in routes.iter().enumerate() {
         if let Some(fault) = route_fault(frame, *route) {

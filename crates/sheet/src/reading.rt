@@ -1,5 +1,6 @@
 // Reading a sheet: every question in its order, and then a view that copies nothing.
 ghost use Rattle.std.specs.Prelude.{◌≡◌, ◌+◌, ◌*◌, ◌^◌, ◌<◌, ◌≤◌, length, map, sum_by, IfOk, OnOk, slice_index};
+ghost use Rattle.board.specs.Board.{shape_of};
 ghost use Rattle.board.specs.Questions.{answer, first_no, map_ok};
 ghost use Rattle.bits.specs.Bits.{bits_of};
 ghost use Rattle.bits.specs.Fields.{width, record_start};
@@ -81,7 +82,7 @@ fn read_header(reader: &mut BitReader, entries: usize) -> Result<Header, SheetFa
 // Every record, in the order of the routes.
 fn check_records(reader: &mut BitReader, header: &Header) -> Result<(), SheetFault>
     requires { reader.old.position ≡ 32 }
-    ensures { result ≡ answer (first_no (records_questions (bits_of reader.old.bytes) header.now.frame 0 header.now.routes)) tt }
+    ensures { result ≡ answer (first_no (records_questions (bits_of reader.old.bytes) (shape_of header.now.frame) 0 header.now.routes)) tt }
 {
     for route in 0..header.routes {
         check_record(reader, &header.frame, route)?;
@@ -92,7 +93,7 @@ fn check_records(reader: &mut BitReader, header: &Header) -> Result<(), SheetFau
 // The record of one route.
 fn check_record(reader: &mut BitReader, frame: &Frame, route: u16) -> Result<(), SheetFault>
     requires { reader.old.position ≡ record_start route }
-    ensures answer { result ≡ answer (first_no (record_questions (bits_of reader.old.bytes) frame.now route)) tt }
+    ensures answer { result ≡ answer (first_no (record_questions (bits_of reader.old.bytes) (shape_of frame.now) route)) tt }
     ensures reader { OnOk result (reader.new ≡ moved reader.old 39) }
     ensures bytes { reader.new.bytes ≡ reader.old.bytes }
 {
@@ -104,7 +105,7 @@ fn check_record(reader: &mut BitReader, frame: &Frame, route: u16) -> Result<(),
 // The route with this number, from the numbers of its record.
 fn order_route(frame: &Frame, route: u16, numbers: [u16; 4]) -> Result<Route, OrderFault>
     requires { slice_index numbers 2 < 2 ^ 13 }
-    ensures { result ≡ order_answer frame.now route (route_of numbers) }
+    ensures { result ≡ order_answer (shape_of frame.now) route (route_of numbers) }
 {
     let [start, end, floor, ceiling] = numbers;
     let asked = Route::new(

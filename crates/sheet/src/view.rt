@@ -1,6 +1,6 @@
 // An accepted sheet, as a view over the lent bytes.
 ghost use Rattle.std.specs.Prelude.{◌≡◌, ◌^◌, ◌<◌, length, slice_get};
-ghost use Rattle.board.specs.Board.{Valid};
+ghost use Rattle.board.specs.Board.{shape_of, Valid};
 ghost use Rattle.bits.specs.Bits.{bits_of};
 ghost use Rattle.bits.specs.Fields.{width};
 ghost use Rattle.layout.specs.Format.{IsSheet};
@@ -27,7 +27,7 @@ impl<'a> Sheet<'a> {
 
     // The board's frame.
     pub fn frame(&self) -> Frame
-        ensures { result ≡ (board_of self.now).shape }
+        ensures { shape_of result ≡ (board_of self.now).shape }
     {
         let places = stating(self.bytes, 0, Field::Places);
         let home = stating(self.bytes, 0, Field::Home);

@@ -1,4 +1,5 @@
 use Rattle.std.proofs.Common.{sym, ◌∙◌, arith}
+use Rattle.board.specs.Board.{shape_of}
 use Rattle.labelling.proofs.Counts.{room_for, room_kept}
 use Rattle.labelling.proofs.Scans.{left_skip, left_step, left_stop, left_end}
 use Rattle.labelling.proofs.Ways.{way_inside, share_fits}
@@ -21,7 +22,7 @@ reach-requires-clause-room g c =
     let way = rw (share_fits _ _ _ (carries.each c.loop-k.k (omega arith)) (carries.within c.loop-k.k (omega arith))) at c.way_on.ensures in
     let d = c.args.carried.now in
     let inside = way_inside _ _ _ _ _ c.in-Some.way (carries.each c.loop-k.k (omega arith)) (sym c.in-Some.is ∙ way) in
-    room_for c.args.demand.now c.loop-k.labels c.in-Some.way c.args.from.amount d.frame.now.places (g.P.Picker.meaning c.loop-k.picker) inside (carries.frame.few)
+    room_for c.args.demand.now c.loop-k.labels c.in-Some.way c.args.from.amount (shape_of d.frame.now).places (g.P.Picker.meaning c.loop-k.picker) inside (carries.frame.few)
     c.loop-k.invariant.long c.loop-k.invariant.room
 
 pub returns-in-Some-reach : goal.returns-in-Some-reach
@@ -43,7 +44,7 @@ loop-k-preserved g c =
     let there = sym c.in-Some.is ∙ way in
     let inside = way_inside _ _ _ _ _ c.in-Some.way (carries.each c.loop-k.k (omega arith)) there in
     let step = left_step _ _ _ _ _ _ _ _ _ _ i.left (omega arith) carries.long c.in-Some.way there (sym c.in_default-reach.is ∙ c.reach.ensures.goal) in
-    let kept = room_kept c.args.demand.now c.loop-k.labels c.in-Some.way c.args.from.amount d.frame.now.places (g.P.Picker.meaning c.loop-k.picker) inside (carries.frame.few) i.long i.room in
+    let kept = room_kept c.args.demand.now c.loop-k.labels c.in-Some.way c.args.from.amount (shape_of d.frame.now).places (g.P.Picker.meaning c.loop-k.picker) inside (carries.frame.few) i.long i.room in
     record {
       left = rw (c.reach.ensures.labels, c.reach.ensures.meaning) step;
       long = c.reach.array_long;

@@ -1,5 +1,6 @@
 -- What each step of trying the routes keeps.
 use Rattle.std.proofs.Common.{◌≡◌, ◌≤◌, ◌+◌, length}
+use Rattle.board.specs.Board.{shape_of}
 use Rattle.picker.specs.Meaning.{waiting}
 use Rattle.labelling.specs.Trying.{scanned, unlabelled}
 use Rattle.labelling.proofs.Scans.{Left}
@@ -14,5 +15,5 @@ invariant-loop-k g l =
     record {
       left : Left l.demand l.from.place l.from.amount l.carried.routes.now l.carried.shares.now whole (means first.picker) l.k l.labels (means l.picker);
       long : length l.labels ≡ 128;
-      room : waiting (means l.picker) + unlabelled l.carried.frame.now.places l.labels ≤ (means l.picker).room;
+      room : waiting (means l.picker) + unlabelled (shape_of l.carried.frame.now).places l.labels ≤ (means l.picker).room;
     }

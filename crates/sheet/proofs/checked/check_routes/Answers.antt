@@ -1,6 +1,6 @@
 use Rattle.std.proofs.Common.{ℕ, ◌+◌, List, get_or, drop, sym, ap, ◌∙◌, add-one}
 use Rattle.std.proofs.lemmas.List.{drop_more, drop_all}
-use Rattle.board.specs.Board.{Shape}
+use Rattle.board.specs.Board.{Shape, shape_of}
 use Rattle.board.specs.Questions.{first_no, answer}
 use Rattle.board.specs.declared.route.Route.{Route}
 use Rattle.sheet.specs.Saving.{routes_questions}
@@ -9,7 +9,7 @@ use Rattle.sheet.proofs.checked.check_routes.Goals as goal
 
 pub returns-in-Some : goal.returns-in-Some
 returns-in-Some c =
-    let s : Shape = c.args.frame.now in
+    let s : Shape = shape_of c.args.frame.now in
     let rs : List Route = c.args.routes.now in
     let k : ℕ = c.loop-k.k in
     let d = drop_more rs k blank c.loop-k-test.true in
@@ -19,7 +19,7 @@ returns-in-Some c =
 
 pub loop-k-preserved : goal.loop-k-preserved
 loop-k-preserved c =
-    let s : Shape = c.args.frame.now in
+    let s : Shape = shape_of c.args.frame.now in
     let rs : List Route = c.args.routes.now in
     let k : ℕ = c.loop-k.k in
     let d = drop_more rs k blank c.loop-k-test.true in
@@ -31,7 +31,7 @@ loop-k-preserved c =
 pub returns : goal.returns
 unfolding routes_questions
 returns c =
-    let s : Shape = c.args.frame.now in
+    let s : Shape = shape_of c.args.frame.now in
     let d = drop_all c.loop-k.k c.args.routes.now c.loop-k-test.false in
     let all = sym (ap (λ (l : List Route). first_no (routes_questions s c.loop-k.k l)) d) ∙ c.loop-k.invariant in
     ap (λ o. answer o tt) all

@@ -3,14 +3,14 @@ use Rattle.std.proofs.Common.{◌≡◌, ℕ, ◌≤◌, length, None, Ok, sym, 
 use Rattle.std.proofs.lemmas.Bool.{true≢false}
 use Rattle.std.proofs.lemmas.Result.{err_from_is_err_and}
 use Rattle.board.proofs.First.{refusal, acceptance}
-use Rattle.board.specs.Board.{Board, ValidShape}
+use Rattle.board.specs.Board.{Board}
 use Rattle.board.specs.Questions.{first_no}
 use Rattle.layout.specs.Format.{sheet_bits, sheet_length}
 use Rattle.sheet.specs.Checked.{board_of}
 use Rattle.sheet.specs.Saving.{board_with, board_questions}
 use Rattle.sheet.specs.Writing.{Placed}
 use Rattle.sheet.proofs.Placed.{ends_with_sheet, ends_as_before}
-use Rattle.sheet.proofs.Saving.{write_refused, write_short, write_fits, refused_decides, accepted_decides}
+use Rattle.sheet.proofs.Saving.{frame_shape, write_refused, write_short, write_fits, refused_decides, accepted_decides}
 use Rattle.sheet.proofs.writing.write.Goals as goal
 use Rattle.sheet.proofs.writing.write.Goals.{In_ok-board}
 
@@ -43,7 +43,6 @@ returns c =
     let l = c.sheet_length-length.ensures ∙ ap (λ (x : Board). sheet_length (length x.routes)) a.1 in
     let fits : sheet_length (length b.routes) ≤ n = omega arith in
     let e = write_fits b n a.0 fits in
-    let shape : ValidShape b.shape = subst (λ (x : Board). ValidShape x.shape) a.1 c.write.ensures.shape in
     let w : Placed c.new-writer.result.buffer.now c.new-writer.result.position (sheet_bits b) c.write.new.writer.buffer.now =
     subst (λ (x : Board). Placed c.new-writer.result.buffer.now c.new-writer.result.position (sheet_bits x) c.write.new.writer.buffer.now) a.1 c.write.ensures.wrote.placed
     in
@@ -55,5 +54,5 @@ returns c =
       sheet = ends_with_sheet b _ placed l (search rules);
       later = ends_as_before b _ placed l (search rules);
       refused = λ h. absurd (true≢false h);
-      valid = accepted_decides b n shape a.0 fits;
+      valid = accepted_decides b n (frame_shape c.args.frame.now) a.0 fits;
     }

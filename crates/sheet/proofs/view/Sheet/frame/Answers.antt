@@ -1,10 +1,10 @@
 -- The header's fields are those of the stated shape, which is valid.
 use mathlib.Core.Bool.{Bool-set}
 use mathlib.Core.Logic.{∥∥₁_elim}
-use Rattle.std.proofs.Common.{◌≡◌, true, is_ok, subst, sym, ◌∙◌, rules}
+use Rattle.std.proofs.Common.{◌≡◌, true, is_ok, subst, sym, ap, ◌∙◌, rules}
 use Rattle.board.proofs.First.{acceptance}
-use Rattle.board.specs.Board.{Shape, ValidShape}
-use Rattle.board.specs.Questions.{first_no, frame_questions}
+use Rattle.board.specs.Board.{Shape, shape_of, ValidShape}
+use Rattle.board.specs.Questions.{first_no, map_ok, frame_questions}
 use Rattle.layout.specs.Stated.{stated}
 use Rattle.sheet.specs.View.{board_of}
 use Rattle.sheet.proofs.view.Sheet.frame.Goals as goal
@@ -25,5 +25,5 @@ unwrap-requires c =
 pub returns : goal.returns
 returns c =
     let s : Shape = record { places = c.from.result; home = c.from-2.result; port = c.from-3.result } in
-    let a = acceptance (first_no (frame_questions s)) s c.unwrap.result (sym c.unwrap.ensures ∙ c.new.ensures.answer) in
+    let a = acceptance (first_no (frame_questions s)) s (shape_of c.unwrap.result) (ap (map_ok shape_of) (sym c.unwrap.ensures) ∙ c.new.ensures.answer) in
     a.1 ∙ read (goal.at.returns c).After-new
