@@ -1,12 +1,12 @@
 // The count of the places that were taken out.
-ghost use Rattle.std.specs.Prelude.{◌≡◌, ◌≤◌};
+ghost use Rattle.std.specs.Prelude.{◌≡◌};
 ghost use Rattle.picker.specs.Meaning.{counted};
 
-// How many places were taken out since a picker was last emptied; the count stops at 65,535.
+// How many places were taken out since a picker was last emptied; the count stops at 65,535. (Each picker says so in a
+// ghost field: with one here a caller could keep no picker over lent entries in an `Option` or a `Result`.)
 #[derive(Clone, Copy, PartialEq, Eq, Debug)]
 pub struct Count {
     pub number: u16,
-    pub ghost stops: { number ≤ 65535 },
 }
 
 impl Count {

@@ -17,6 +17,7 @@ pub struct Queue<E: End> {
     end: PhantomData<E>,
     pub ghost inside: { Inside (occurs (E.order row)) },
     pub ghost few: { length (E.order row) ≤ 128 },
+    pub ghost stops: { count.number ≤ 65535 },
 }
 
 // The place that has waited longest is taken first.
@@ -51,7 +52,7 @@ impl<E: End> Picker for Queue<E> {
 
     ghost meaning = { queue_meaning };
 
-    ghost lawful = { record { inside = λ p. p.inside; stops = λ p. p.count.stops } };
+    ghost lawful = { record { inside = λ p. p.inside; stops = λ p. p.stops } };
 
     fn empty(&mut self)
         ensures meaning { queue_meaning self.new ≡ fresh 128 }

@@ -1,8 +1,10 @@
-// Pickers on examples: the order in which each gives places back, every refusal, and the count.
+// Pickers on examples: the order in which each gives places back, every refusal, the count, and what keeps one.
 #![tactic(auto)]
 
 #[cfg(test)]
 mod counting;
+#[cfg(test)]
+mod keeping;
 #[cfg(test)]
 mod order;
 #[cfg(test)]

@@ -38,7 +38,7 @@ impl<'e> Picker for LargestAmount<'e> {
 
     ghost meaning = { amount_meaning };
 
-    ghost lawful = { record { inside = λ p. p.waiting.inside; stops = λ p. p.waiting.count.stops } };
+    ghost lawful = { record { inside = λ p. p.waiting.inside; stops = λ p. p.waiting.stops } };
 
     fn empty(&mut self)
         ensures meaning { amount_meaning self.new ≡ emptied (amount_meaning self.old) }

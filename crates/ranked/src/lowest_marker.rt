@@ -58,7 +58,7 @@ impl<'m, 'e> Picker for LowestMarker<'m, 'e> {
 
     ghost meaning = { marker_meaning };
 
-    ghost lawful = { record { inside = λ p. p.waiting.inside; stops = λ p. p.waiting.count.stops } };
+    ghost lawful = { record { inside = λ p. p.waiting.inside; stops = λ p. p.waiting.stops } };
 
     fn empty(&mut self)
         ensures meaning { marker_meaning self.new ≡ emptied (marker_meaning self.old) }

@@ -1,5 +1,5 @@
 // Places that wait, in the order of their ranks.
-ghost use Rattle.std.specs.Prelude.{map};
+ghost use Rattle.std.specs.Prelude.{◌≤◌, map};
 ghost use Rattle.heap.specs.Held.{held};
 ghost use Rattle.picker.specs.Meaning.{Inside, occurs};
 
@@ -18,6 +18,7 @@ where
     heap: Heap<'e, Ranked<R>>,
     count: Count,
     ghost inside: { Inside (occurs (map (λ e. e.place) (held heap))) },
+    ghost stops: { count.number ≤ 65535 },
 }
 
 impl<'e, R: Copy> Waiting<'e, R>

@@ -4,7 +4,7 @@ use Rattle.picker.proofs.queue.Queue.new.Goals as goal
 
 pub invariant_of-result : goal.invariant_of-result
 invariant_of-result g c =
-    record { inside = none_inside g.E.End.order g.met.E.End.same _ c.new.ensures; few = none_few g.E.End.order g.met.E.End.same _ c.new.ensures }
+    record { inside = none_inside g.E.End.order g.met.E.End.same _ c.new.ensures; few = none_few g.E.End.order g.met.E.End.same _ c.new.ensures; stops = omega arith }
 
 pub returns-clause-meaning : goal.returns-clause-meaning
 returns-clause-meaning g c = none_means g.E.End.order g.met.E.End.same _ c.new.ensures _ (omega arith)

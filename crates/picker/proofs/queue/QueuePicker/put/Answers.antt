@@ -12,7 +12,7 @@ invariant_of-self g c =
     let one_more = length_permutation _ _ joined in
     let ordered = length_permutation _ _ (g.met.E.End.same p.row) in
     let waits = c.len-waiting.ensures in
-    record { inside = joined_inside c.args.place (g.E.End.order p.row) _ p.inside known.0 joined; few = omega (arith, known.1, one_more, ordered, waits) }
+    record { inside = joined_inside c.args.place (g.E.End.order p.row) _ p.inside known.0 joined; few = omega (arith, known.1, one_more, ordered, waits); stops = p.stops }
 
 pub returns-clause-meaning : goal.returns-clause-meaning
 returns-clause-meaning g c =

@@ -1,3 +1,4 @@
+use Rattle.std.proofs.Common.{arith}
 use Rattle.picker.proofs.Queued.{left_inside, left_few, took_nothing, took_next}
 use Rattle.picker.proofs.queue.QueuePicker.take.Goals as goal
 
@@ -7,6 +8,7 @@ invariant_of-self g c =
     record {
       inside = left_inside g.E.End.order p.row _ c.pop.ensures.rest p.inside;
       few = left_few g.E.End.order p.row _ c.pop.ensures.rest 128 p.few;
+      stops = p.stops;
     }
 
 pub returns-in_err-place-clause-took : goal.returns-in_err-place-clause-took
@@ -20,6 +22,7 @@ invariant_of-self-2 g c =
     record {
       inside = left_inside g.E.End.order p.row _ c.pop.ensures.rest p.inside;
       few = left_few g.E.End.order p.row _ c.pop.ensures.rest 128 p.few;
+      stops = omega (arith, c.add_one.ensures);
     }
 
 pub returns-clause-took : goal.returns-clause-took

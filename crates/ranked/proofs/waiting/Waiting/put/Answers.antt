@@ -9,7 +9,7 @@ invariant_of-self g c =
     let w = c.args.self.now in
     let told = c.push.ensures in
     let put = put_pushed (λ e. e.place) (held w.heap) _ _ _ w.count.number told.room c.args.entry _ _ _ w.inside c.len.ensures c.room.ensures c.in_ok-check_put.ensures told.accepts told.held in
-    record { inside = put.2 }
+    record { inside = put.2; stops = w.stops }
 
 pub returns-clause-answer : goal.returns-clause-answer
 returns-clause-answer g c =

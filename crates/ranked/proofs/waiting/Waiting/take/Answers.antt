@@ -1,3 +1,4 @@
+use Rattle.std.proofs.Common.{arith}
 use Rattle.std.proofs.lemmas.List.Sorted.{IsPermutation-map}
 use Rattle.heap.specs.Held.{held, room}
 use Rattle.picker.proofs.Listed.{left_inside}
@@ -7,7 +8,7 @@ use Rattle.ranked.proofs.waiting.Waiting.take.Goals as goal
 pub invariant_of-self-2 : goal.invariant_of-self-2
 invariant_of-self-2 g c =
     let places = IsPermutation-map (λ e. e.place) _ _ c.in_ok-first.ensures.held.0 in
-    record { inside = left_inside _ _ _ c.args.self.now.inside places }
+    record { inside = left_inside _ _ _ c.args.self.now.inside places; stops = omega (arith, c.add_one.ensures) }
 
 pub returns-clause-took : goal.returns-clause-took
 returns-clause-took g c =
