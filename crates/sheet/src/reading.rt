@@ -45,6 +45,8 @@ impl<'a> Sheet<'a> {
 }
 
 // The numbers that four fields state, which stand in turn from where the reader is; or the first that is missing.
+// (In line, so that each field's width is known where it is taken: as a call of its own it takes a quarter more time.)
+#[inline(always)]
 fn take_four(reader: &mut BitReader, fields: [Field; 4]) -> Result<[u16; 4], BitFault>
     requires start { reader.old.position < 2 ^ 32 }
     requires four { length fields ≡ 4 }
