@@ -1,9 +1,15 @@
 -- What a total order gives, and that the first entry of a list in order comes no later than any of it.
 use Rattle.std.proofs.Common.{◌≡◌, ℕ, zero, suc, ◌<◌, ◌≤◌, Bool, true, false, ◌||◌, List, length, get_or, arith}
-use Rattle.std.proofs.ByRecursion.{All-from_get_or}
+use Rattle.std.proofs.ByRecursion.{All-from_get_or, all-has}
+use Rattle.heap.specs.Laws.{OneFirst}
 use Rattle.heap.specs.Order.{parent, Ordered, First}
 
 module _ {E : Type 0} (before : E → E → Bool) where
+  -- Two that are first come no later than each other.
+  pub one_first : ((x y : E) → before x y ≡ true → before y x ≡ true → x ≡ y) → OneFirst before
+  one_first same xs x y hx hy fx fy =
+      same x y (all-has (λ z. before x z ≡ true) xs y fx hy) (all-has (λ z. before y z ≡ true) xs x fy hx)
+
   module _ (total : (x y : E) → (before x y || before y x) ≡ true) where
     -- Where an entry does not come no later than another, the other does.
     pub other_way : (x y : E) → before x y ≡ false → before y x ≡ true

@@ -3,16 +3,18 @@ use Rattle.std.proofs.Common.{◌≡◌, ℕ, ◌+◌, ◌<◌, ◌≤◌, min, 
 use Rattle.picker.specs.Meaning.{Meaning, waiting, waiting_below, Took, Inside, drained}
 use Rattle.picker.proofs.Waiting.{waiting_nowhere, waiting_less}
 
+-- where no place at or above 128 waits, a place that waits is below it
+pub below_128 : (m : Meaning) (p : ℕ) → Inside m.waits → 0 < m.waits p → p < 128
+below_128 m p inside h = grind (arith, inside p, h)
+
 -- one less waits
-pub took_one : (m n : Meaning) (p : ℕ) → Inside m.waits → Took m (Some p) n → waiting n + 1 ≡ waiting m
-took_one m n p inside t =
-    let known : p < 128 = grind (arith, inside p, t.0) in
-    omega (arith, ap waiting t.1, waiting_less 128 p m.waits known t.0)
+pub took_one : (m n : Meaning) (p : ℕ) → p < 128 → Took m (Some p) n → waiting n + 1 ≡ waiting m
+took_one m n p known t = omega (arith, ap waiting t.1, waiting_less 128 p m.waits known t.0)
 
 -- what is left in the end is the same before and after
-pub drained_again : (m n : Meaning) (p : ℕ) → Inside m.waits → Took m (Some p) n → drained n ≡ drained m
-drained_again m n p inside t =
-    let l = took_one m n p inside t in
+pub drained_again : (m n : Meaning) (p : ℕ) → p < 128 → Took m (Some p) n → drained n ≡ drained m
+drained_again m n p known t =
+    let l = took_one m n p known t in
     let c = ap (λ (k : Meaning). k.count) t.1 in
     let same : min (n.count + waiting n) 65535 ≡ min (m.count + waiting m) 65535 = omega arith in
     let room = ap (λ (k : Meaning). k.room) t.1 in

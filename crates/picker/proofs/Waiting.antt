@@ -24,3 +24,9 @@ restored p v w h = grind arith
 
 pub waiting_less : (n p : ℕ) (w : Waits) → p < n → 0 < w p → waiting_below n (less p w) + 1 ≡ waiting_below n w
 waiting_less n p w h s = sym (waiting_more n p (less p w) h) ∙ ap (waiting_below n) (λ i v. restored p v w s i)
+
+-- a place waits at most as often as all do
+pub waits_within : (n v : ℕ) (w : Waits) → v < n → w v ≤ waiting_below n w
+unfolding waiting_below
+waits_within zero v w h = grind arith
+waits_within (suc n) v w h = grind (arith, waits_within n v w)

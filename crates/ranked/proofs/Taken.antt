@@ -1,6 +1,7 @@
 -- What leaves a heap of ranked places: the derived orders are those that the specifications say, and markers stay.
-use Rattle.std.proofs.Common.{◌≡◌, ℕ, ◌<◌, Bool, true, List, ◌∷◌, map, length, get_or, Some, None, Ok, Err, Option, Result, option_map, ap, ◌∙◌, sym, subst, arith}
+use Rattle.std.proofs.Common.{◌≡◌, ℕ, ◌<◌, Bool, true, List, [], ◌∷◌, map, length, get_or, Some, None, Ok, Err, Option, Result, option_map, ap, ◌∙◌, sym, subst, arith}
 use Rattle.std.specs.List.{AllByRecursion}
+use Rattle.std.specs.List.Sorted.{IsPermutation}
 use Rattle.std.specs.Ordering.{is_le, nat_cmp, ordering_then}
 use Rattle.std.proofs.ByRecursion.{All-get_or, All-from_get_or, All-map, All-weaker, all_shuffled}
 use Rattle.std.proofs.lemmas.List.Sorted.{IsPermutation-map}
@@ -27,44 +28,48 @@ largest_taken xs ys None t = t
 largest_taken xs ys (Some x) t =
     (x.rank.0, t.0, All-weaker _ _ (λ y h. sym (by_amount x y) ∙ h) xs t.1)
 
+-- A fact of each entry of a list; d is what is read of an index past the end.
+module _ {E : Type 0} (P : E → Type 0) (d : E) where
+  -- It holds of each entry.
+  abbrev pub Each : List E → Type 0
+  Each xs = (k : ℕ) → k < length xs → P (get_or xs k d)
+
+  all_of : (xs : List E) → Each xs → AllByRecursion P xs
+  all_of xs each = All-from_get_or P xs d each
+
+  each_of : (xs : List E) → AllByRecursion P xs → Each xs
+  each_of xs all k l = All-get_or P xs k d l all
+
+  pub each_none : (xs : List E) → xs ≡ [] → Each xs
+  each_none xs e = each_of xs (subst (AllByRecursion P) (sym e) tt)
+
+  -- So it stays where one joins of which it holds, and where one leaves, of which it holds too.
+  pub joined_each : {F : Type 0} (xs ys : List E) (x : E) (r : Result (Unit {0}) F) → Joined xs x r ys → P x → Each xs → Each ys
+  joined_each xs ys x (Ok done) t mine each = each_of ys (all_shuffled P (x ∷ xs) ys t (mine, all_of xs each))
+  joined_each xs ys x (Err fault) t mine each = subst Each (sym t) each
+
+  pub left_each : (xs ys : List E) (x : E) → IsPermutation xs (x ∷ ys) → Each xs → P x × Each ys
+  left_each xs ys x left each = let all = all_shuffled P xs (x ∷ ys) left (all_of xs each) in (all.0, each_of ys all.1)
+
+  module _ (before : E → E → Bool) where
+    pub popped_each : (xs ys : List E) (r : Option E) → Popped before xs r ys → Each xs → Each ys
+    popped_each xs ys None t each = each_none ys t.1
+    popped_each xs ys (Some x) t each = (left_each xs ys x t.0 each).1
+
 module _ (markers : List ℕ) where
-  -- Each entry has the marker of its place.
-  abbrev pub Each : List MarkerEntry → Type 0
-  Each xs = (k : ℕ) → k < length xs → Marked markers (get_or xs k blank)
-
-  all_of : (xs : List MarkerEntry) → Each xs → AllByRecursion (Marked markers) xs
-  all_of xs each = All-from_get_or (Marked markers) xs blank each
-
-  each_of : (xs : List MarkerEntry) → AllByRecursion (Marked markers) xs → Each xs
-  each_of xs all k l = All-get_or (Marked markers) xs k blank l all
-
   lower_from_before : (x y : MarkerEntry) → Marked markers x → Marked markers y
       → is_le (ordering_then (nat_cmp x.rank y.rank) (nat_cmp x.place y.place)) ≡ true
       → lower markers x.place y.place ≡ true
   lower_from_before x y mine yours h = let t = by_marker x y in cc
 
-  -- So it stays where one joins that has it, and where one leaves.
-  pub joined_each : {F : Type 0} (xs ys : List MarkerEntry) (x : MarkerEntry) (r : Result (Unit {0}) F)
-      → Joined xs x r ys
-      → Marked markers x
-      → Each xs
-      → Each ys
-  joined_each xs ys x (Ok done) t mine each = each_of ys (all_shuffled (Marked markers) (x ∷ xs) ys t (mine, all_of xs each))
-  joined_each xs ys x (Err fault) t mine each = subst Each (sym t) each
-
-  module _ (before : MarkerEntry → MarkerEntry → Bool) where
-    pub popped_each : (xs ys : List MarkerEntry) (r : Option MarkerEntry) → Popped before xs r ys → Each xs → Each ys
-    popped_each xs ys None t each = each_of ys (subst (AllByRecursion (Marked markers)) (t.0 ∙ sym t.1) (all_of xs each))
-    popped_each xs ys (Some x) t each = each_of ys (all_shuffled (Marked markers) xs (x ∷ ys) t.0 (all_of xs each)).1
-
   -- The place of the entry that leaves has the least marker.
   pub lowest_taken : (xs ys : List MarkerEntry) (r : Option MarkerEntry)
       → Popped (λ x y. is_le (ordering_then (nat_cmp x.rank y.rank) (nat_cmp x.place y.place))) xs r ys
-      → Each xs
+      → Each (Marked markers) blank xs
       → LowestTaken markers (map (λ e. e.place) xs) (option_map (λ e. e.place) r) (map (λ e. e.place) ys)
   lowest_taken xs ys None t each = (ap (map (λ e. e.place)) t.0, ap (map (λ e. e.place)) t.1)
   lowest_taken xs ys (Some x) t each =
-      let mine : Marked markers x = (all_shuffled (Marked markers) xs (x ∷ ys) t.0 (all_of xs each)).0 in (
+      let mine : Marked markers x = (left_each (Marked markers) blank xs ys x t.0 each).0 in (
         IsPermutation-map (λ e. e.place) xs (x ∷ ys) t.0,
         All-map (λ q. lower markers x.place q ≡ true) (λ e. e.place) xs
             (All-from_get_or (λ y. lower markers x.place y.place ≡ true) xs blank
