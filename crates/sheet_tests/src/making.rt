@@ -56,3 +56,32 @@ fn routes(rt: HostRuntime) -> Result<(), Fail> {
     }
     Ok(())
 }
+
+// A frame with a name beside it: a frame may be kept in what is copied.
+#[derive(Clone, Copy)]
+struct Named {
+    frame: Frame,
+    name: u8,
+}
+
+// Home as a byte, and whether it is another place than port: a frame alone tells that this fits and holds.
+fn home_byte(frame: &Frame) -> u8 {
+    let home = frame.home();
+    let port = frame.port();
+    prove!(home != port);
+    home as u8
+}
+
+fn name_and_home(named: Named) -> (u8, u8) {
+    (named.name, home_byte(&named.frame))
+}
+
+#[test]
+fn frames_are_copied(rt: HostRuntime) -> Result<(), Fail> {
+    let frame = Frame::new(128, 127, 126)?;
+    let named = Named { frame, name: 7 };
+    assert_eq!(rt; name_and_home(named), (7, 127));
+    let two = [named, named];
+    assert_eq!(rt; name_and_home(two[1]), name_and_home(named));
+    Ok(())
+}
