@@ -2,25 +2,16 @@
 ghost use Rattle.std.specs.Prelude.{◌≡◌, ◌^◌, ◌<◌, is_ok, IfOk, if◌then◌else◌, slice_index};
 ghost use Rattle.bits.specs.Bits.{bits_of, field_at};
 ghost use Rattle.bits.specs.Fields.{width};
-ghost use Rattle.bits.specs.Reading.{taken, moved};
 
 use crate::fault::BitFault;
 use crate::field::{Field, end_of};
-use std::marker::Model;
 
-// Bytes, and the bit where the next field begins. In a clause a reader is a cursor of these two.
+// Bytes, and the bit where the next field begins. (No model: with one, two readers over bytes of their own could not be
+// swapped.)
 #[derive(Drop)]
 pub struct BitReader<'a> {
     bytes: &'a [u8],
     position: usize,
-}
-
-impl<'a> Model for BitReader<'a> {
-    ghost use Rattle.bits.specs.Cursor.{Cursor};
-
-    ghost Value = { Cursor };
-
-    ghost view = { λ r. record { bytes = r.bytes.now; position = r.position } };
 }
 
 // The byte at an index; past the end it is 0.
@@ -48,9 +39,12 @@ pub fn field_at(bytes: &[u8], start: usize, field: Field) -> u16
 }
 
 impl<'a> BitReader<'a> {
+    ghost use Rattle.bits.specs.Cursor.{cursor_of};
+    ghost use Rattle.bits.specs.Reading.{taken, moved};
+
     // A reader at bit 0.
     pub fn new(bytes: &'a [u8]) -> BitReader<'a>
-        ensures { result ≡ record { bytes = bytes.now; position = 0 } }
+        ensures { cursor_of result ≡ record { bytes = bytes.now; position = 0 } }
     {
         BitReader { bytes, position: 0 }
     }
@@ -58,9 +52,9 @@ impl<'a> BitReader<'a> {
     // The number that the next bits state, and then the reader stands behind them; or the bit where they begin, and
     // then it has not moved.
     pub fn take(&mut self, field: Field) -> Result<u16, BitFault>
-        ensures answer { result ≡ taken self.old (width field) }
+        ensures answer { result ≡ taken (cursor_of self.old) (width field) }
         ensures bound { IfOk result (λ n. n < 2 ^ width field) }
-        ensures reader { self.new ≡ (if is_ok result then moved self.old (width field) else self.old) }
+        ensures reader { cursor_of self.new ≡ (if is_ok result then moved (cursor_of self.old) (width field) else cursor_of self.old) }
     {
         let start = self.position;
         self.position = end_of(field, start, self.bytes.len()).ok_or(BitFault { bit: start })?;

@@ -3,6 +3,7 @@ ghost use Rattle.std.specs.Prelude.{◌≡◌, ◌+◌, ◌*◌, ◌^◌, ◌<�
 ghost use Rattle.board.specs.Board.{shape_of};
 ghost use Rattle.board.specs.Questions.{answer, first_no, map_ok};
 ghost use Rattle.bits.specs.Bits.{bits_of};
+ghost use Rattle.bits.specs.Cursor.{cursor_of};
 ghost use Rattle.bits.specs.Fields.{width, record_start};
 ghost use Rattle.bits.specs.Reading.{moved};
 ghost use Rattle.sheet.specs.Header.{stated_of, stated_header};
@@ -51,9 +52,9 @@ fn take_four(reader: &mut BitReader, fields: [Field; 4]) -> Result<[u16; 4], Bit
     requires start { reader.old.position < 2 ^ 32 }
     requires four { length fields ≡ 4 }
     requires turn { InTurn 0 fields }
-    ensures answer { result ≡ fields_answer reader.old fields }
-    ensures reader { OnOk result (reader.new ≡ moved reader.old (sum_by width fields)) }
-    ensures bytes { reader.new.bytes ≡ reader.old.bytes }
+    ensures answer { result ≡ fields_answer (cursor_of reader.old) fields }
+    ensures reader { OnOk result (cursor_of reader.new ≡ moved (cursor_of reader.old) (sum_by width fields)) }
+    ensures bytes { reader.new.bytes.now ≡ reader.old.bytes.now }
 {
     let mut numbers = [0; 4];
     for (k, field) in fields.iter().enumerate() {
@@ -65,9 +66,9 @@ fn take_four(reader: &mut BitReader, fields: [Field; 4]) -> Result<[u16; 4], Bit
 // The frame and the number of routes that the header states.
 fn read_header(reader: &mut BitReader, entries: usize) -> Result<Header, SheetFault>
     requires { reader.old.position ≡ 0 }
-    ensures answer { map_ok stated_of result ≡ answer (first_no (header_questions entries (bits_of reader.old.bytes))) (stated_header (bits_of reader.old.bytes)) }
-    ensures reader { OnOk result (reader.new ≡ moved reader.old 32) }
-    ensures bytes { reader.new.bytes ≡ reader.old.bytes }
+    ensures answer { map_ok stated_of result ≡ answer (first_no (header_questions entries (bits_of reader.old.bytes.now))) (stated_header (bits_of reader.old.bytes.now)) }
+    ensures reader { OnOk result (cursor_of reader.new ≡ moved (cursor_of reader.old) 32) }
+    ensures bytes { reader.new.bytes.now ≡ reader.old.bytes.now }
 {
     let [places, home, port, routes] = take_four(reader, HEADER)?;
     let frame = Frame::new(usize::from(places), usize::from(home), usize::from(port))?;
@@ -84,7 +85,7 @@ fn read_header(reader: &mut BitReader, entries: usize) -> Result<Header, SheetFa
 // Every record, in the order of the routes.
 fn check_records(reader: &mut BitReader, header: &Header) -> Result<(), SheetFault>
     requires { reader.old.position ≡ 32 }
-    ensures { result ≡ answer (first_no (records_questions (bits_of reader.old.bytes) (shape_of header.now.frame) 0 header.now.routes)) tt }
+    ensures { result ≡ answer (first_no (records_questions (bits_of reader.old.bytes.now) (shape_of header.now.frame) 0 header.now.routes)) tt }
 {
     for route in 0..header.routes {
         check_record(reader, &header.frame, route)?;
@@ -95,9 +96,9 @@ fn check_records(reader: &mut BitReader, header: &Header) -> Result<(), SheetFau
 // The record of one route.
 fn check_record(reader: &mut BitReader, frame: &Frame, route: u16) -> Result<(), SheetFault>
     requires { reader.old.position ≡ record_start route }
-    ensures answer { result ≡ answer (first_no (record_questions (bits_of reader.old.bytes) (shape_of frame.now) route)) tt }
-    ensures reader { OnOk result (reader.new ≡ moved reader.old 39) }
-    ensures bytes { reader.new.bytes ≡ reader.old.bytes }
+    ensures answer { result ≡ answer (first_no (record_questions (bits_of reader.old.bytes.now) (shape_of frame.now) route)) tt }
+    ensures reader { OnOk result (cursor_of reader.new ≡ moved (cursor_of reader.old) 39) }
+    ensures bytes { reader.new.bytes.now ≡ reader.old.bytes.now }
 {
     let numbers = take_four(reader, RECORD)?;
     order_route(frame, route, numbers)?;

@@ -13,14 +13,14 @@ pub returns-in_err-check_record : goal.returns-in_err-check_record
 returns-in_err-check_record c =
     let p = err_from_is_err_and c.from_residual.result c.from_residual.ensures.1 in
     let i = c.loop-route.invariant in
-    let a = rw i.0 at c.in_err-check_record.ensures.answer in
+    let a = rw (ap (λ (x : Cursor). x.bytes) i.0) at c.in_err-check_record.ensures.answer in
     refused_by _ _ _ _ tt p.1 p.2 (records_stop _ _ _ _ _ i.1 c.loop-route-test.true _ a)
 
 pub loop-route-preserved : goal.loop-route-preserved
 loop-route-preserved c =
     let i = c.loop-route.invariant in
-    let a = rw i.0 at c.in_ok-check_record.ensures.answer in (
-      c.in_ok-check_record.ensures.reader ∙ ap (λ (x : Cursor). moved x 39) i.0 ∙ ap (cursor c.args.reader.now.bytes) (omega arith),
+    let a = rw (ap (λ (x : Cursor). x.bytes) i.0) at c.in_ok-check_record.ensures.answer in (
+      c.in_ok-check_record.ensures.reader ∙ ap (λ (x : Cursor). moved x 39) i.0 ∙ ap (cursor c.args.reader.now.bytes.now) (omega arith),
       records_on _ _ _ _ _ i.1 c.loop-route-test.true a,
     )
 

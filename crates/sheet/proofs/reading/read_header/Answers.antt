@@ -23,13 +23,13 @@ pub returns-then-count-gt-ROUTE_LIMIT-clause-answer : goal.returns-then-count-gt
 returns-then-count-gt-ROUTE_LIMIT-clause-answer c =
     let f = simp (c.from.ensures, c.from-2.ensures, c.from-3.ensures) at c.in_ok-frame.ensures.answer in
     let e = over_limit _ c.args.entries c.requires _ c.in_ok-places.ensures.answer _ f (omega arith) in
-    ap (λ z. answer z (stated_header (bits_of c.args.reader.now.bytes))) (sym e)
+    ap (λ z. answer z (stated_header (bits_of c.args.reader.now.bytes.now))) (sym e)
 
 pub returns-then-count-entries-clause-answer : goal.returns-then-count-entries-clause-answer
 returns-then-count-entries-clause-answer c =
     let f = simp (c.from.ensures, c.from-2.ensures, c.from-3.ensures) at c.in_ok-frame.ensures.answer in
     let e = over_entries _ c.args.entries c.requires _ c.in_ok-places.ensures.answer _ f (omega arith) (omega arith) in
-    ap (λ z. answer z (stated_header (bits_of c.args.reader.now.bytes))) (sym e)
+    ap (λ z. answer z (stated_header (bits_of c.args.reader.now.bytes.now))) (sym e)
 
 pub returns-clause-answer : goal.returns-clause-answer
 returns-clause-answer c =
@@ -37,4 +37,4 @@ returns-clause-answer c =
     let e = within_limits _ c.args.entries c.requires _ c.in_ok-places.ensures.answer _ f (omega arith) (omega arith) in
     let a = frame_accepted _ c.args.entries c.requires _ c.in_ok-places.ensures.answer _ f in
     ap₂ (λ s n. Ok (record { shape = s; routes = n })) a.1 a.2
-    ∙ ap (λ z. answer z (stated_header (bits_of c.args.reader.now.bytes))) (sym e)
+    ∙ ap (λ z. answer z (stated_header (bits_of c.args.reader.now.bytes.now))) (sym e)

@@ -7,6 +7,7 @@ use Rattle.sheet.proofs.Exits.{refused_through}
 use Rattle.layout.proofs.Theorems.{reads}
 use Rattle.sheet.proofs.Sheets.{header_refused, records_refused, records_inside, end_decides}
 use Rattle.bits.specs.Bits.{bits_of}
+use Rattle.bits.specs.Cursor.{Cursor}
 use Rattle.layout.specs.Questions.{end_questions, sheet_fault}
 use Rattle.layout.specs.Stated.{stated}
 use Rattle.sheet.specs.View.{board_of}
@@ -16,7 +17,8 @@ use Rattle.sheet.proofs.view.Sheet.read.Goals.{In_ok-check_end}
 pub returns-in_err-header : goal.returns-in_err-header
 returns-in_err-header c =
     let p = err_from_is_err_and c.from_residual.result c.from_residual.ensures.1 in
-    let t = rw c.new-reader.ensures at c.in_err-header.ensures.answer in
+    let same = ap (λ (x : Cursor). x.bytes) c.new-reader.ensures in
+    let t = rw same at c.in_err-header.ensures.answer in
     let a = refused_through board_of _ _ _ _ _ p.1 p.2 (header_refused c.args.bytes.now c.args.entries _ t) in
     record { answer = a; lent = rw p.1 tt; reads = reads c.args.entries c.args.bytes.now _ a }
 
@@ -24,22 +26,25 @@ returns-in_err-header c =
 pub returns-in_err-check_records : goal.returns-in_err-check_records
 returns-in_err-check_records c =
     let p = err_from_is_err_and c.from_residual-in_err-check_records.result c.from_residual-in_err-check_records.ensures.1 in
-    let t = rw c.new-reader.ensures at c.in_ok-header.ensures.answer in
-    let u = simp (c.in_ok-header.ensures.reader, c.new-reader.ensures) at c.in_err-check_records.ensures in
+    let same = ap (λ (x : Cursor). x.bytes) c.new-reader.ensures in
+    let t = rw same at c.in_ok-header.ensures.answer in
+    let u = simp (c.in_ok-header.ensures.bytes, same) at c.in_err-check_records.ensures in
     let a = refused_through board_of _ _ _ _ _ p.1 p.2 (records_refused c.args.bytes.now c.args.entries _ t _ u) in
     record { answer = a; lent = rw p.1 tt; reads = reads c.args.entries c.args.bytes.now _ a }
 
 pub check_end-requires : goal.check_end-requires
 check_end-requires c =
-    let t = rw c.new-reader.ensures at c.in_ok-header.ensures.answer in
-    let u = simp (c.in_ok-header.ensures.reader, c.new-reader.ensures) at c.in_ok-check_records.ensures in
+    let same = ap (λ (x : Cursor). x.bytes) c.new-reader.ensures in
+    let t = rw same at c.in_ok-header.ensures.answer in
+    let u = simp (c.in_ok-header.ensures.bytes, same) at c.in_ok-check_records.ensures in
     records_inside c.args.bytes.now c.args.entries _ t u
 
 pub returns-in_err-check_end : goal.returns-in_err-check_end
 returns-in_err-check_end c =
     let p = err_from_is_err_and c.from_residual-in_err-check_end.result c.from_residual-in_err-check_end.ensures.1 in
-    let t = rw c.new-reader.ensures at c.in_ok-header.ensures.answer in
-    let u = simp (c.in_ok-header.ensures.reader, c.new-reader.ensures) at c.in_ok-check_records.ensures in
+    let same = ap (λ (x : Cursor). x.bytes) c.new-reader.ensures in
+    let t = rw same at c.in_ok-header.ensures.answer in
+    let u = simp (c.in_ok-header.ensures.bytes, same) at c.in_ok-check_records.ensures in
     let e = end_decides c.args.bytes.now c.args.entries _ t u in
     let a =
     refused_through board_of _ _ _ _ _ p.1 p.2
@@ -52,8 +57,9 @@ returns-in_err-check_end c =
 -- where all is accepted
 accepted : (c : In_ok-check_end) → Ok (stated (bits_of c.args.bytes.now)) ≡ answer (sheet_fault c.args.entries (bits_of c.args.bytes.now)) (stated (bits_of c.args.bytes.now))
 accepted c =
-    let t = rw c.new-reader.ensures at c.in_ok-header.ensures.answer in
-    let u = simp (c.in_ok-header.ensures.reader, c.new-reader.ensures) at c.in_ok-check_records.ensures in
+    let same = ap (λ (x : Cursor). x.bytes) c.new-reader.ensures in
+    let t = rw same at c.in_ok-header.ensures.answer in
+    let u = simp (c.in_ok-header.ensures.bytes, same) at c.in_ok-check_records.ensures in
     let e = end_decides c.args.bytes.now c.args.entries _ t u in
     let a =
     acceptance (first_no (end_questions (bits_of c.args.bytes.now) c.in_ok-header.header.routes)) tt tt
