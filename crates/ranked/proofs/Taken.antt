@@ -5,7 +5,7 @@ use Rattle.std.specs.List.Sorted.{IsPermutation}
 use Rattle.std.specs.Ordering.{is_le, nat_cmp, ordering_then}
 use Rattle.std.proofs.ByRecursion.{All-get_or, All-from_get_or, All-map, All-weaker, all_shuffled}
 use Rattle.std.proofs.lemmas.List.Sorted.{IsPermutation-map}
-use Rattle.heap.specs.Order.{Popped}
+use Rattle.heap.specs.Order.{First, Popped}
 use Rattle.ranked.specs.Orders.{MarkerEntry, AmountEntry, Marked, marker_before, amount_before}
 use Rattle.ranked.specs.Ranked.{lower, LowestTaken, LargestTaken}
 use Rattle.ranked.specs.Waiting.{Joined}
@@ -57,24 +57,29 @@ module _ {E : Type 0} (P : E → Type 0) (d : E) where
     popped_each xs ys (Some x) t each = (left_each xs ys x t.0 each).1
 
 module _ (markers : List ℕ) where
-  lower_from_before : (x y : MarkerEntry) → Marked markers x → Marked markers y
-      → is_le (ordering_then (nat_cmp x.rank y.rank) (nat_cmp x.place y.place)) ≡ true
+  lower_from_before : (x y : MarkerEntry) → Marked markers x → Marked markers y → marker_before x y ≡ true
       → lower markers x.place y.place ≡ true
-  lower_from_before x y mine yours h = let t = by_marker x y in cc
+  lower_from_before x y mine yours h = cc
 
-  -- The place of the entry that leaves has the least marker.
+  -- The place of an entry that comes first by its marker has the least marker.
+  pub lowest_from_first : (x : MarkerEntry) (xs : List MarkerEntry) → Each (Marked markers) blank xs → Marked markers x
+      → First marker_before x xs
+      → AllByRecursion (λ q. lower markers x.place q ≡ true) (map (λ e. e.place) xs)
+  lowest_from_first x xs each mine first =
+      All-map (λ q. lower markers x.place q ≡ true) (λ e. e.place) xs
+      (All-from_get_or (λ y. lower markers x.place y.place ≡ true) xs blank
+      (λ k l. lower_from_before x (get_or xs k blank) mine (each k l) (All-get_or (λ y. marker_before x y ≡ true) xs k blank l first)))
+
+  -- So has that of the entry that leaves.
   pub lowest_taken : (xs ys : List MarkerEntry) (r : Option MarkerEntry)
       → Popped (λ x y. is_le (ordering_then (nat_cmp x.rank y.rank) (nat_cmp x.place y.place))) xs r ys
       → Each (Marked markers) blank xs
       → LowestTaken markers (map (λ e. e.place) xs) (option_map (λ e. e.place) r) (map (λ e. e.place) ys)
   lowest_taken xs ys None t each = (ap (map (λ e. e.place)) t.0, ap (map (λ e. e.place)) t.1)
   lowest_taken xs ys (Some x) t each =
-      let mine : Marked markers x = (left_each (Marked markers) blank xs ys x t.0 each).0 in (
-        IsPermutation-map (λ e. e.place) xs (x ∷ ys) t.0,
-        All-map (λ q. lower markers x.place q ≡ true) (λ e. e.place) xs
-            (All-from_get_or (λ y. lower markers x.place y.place ≡ true) xs blank
-            (λ k l. lower_from_before x (get_or xs k blank) mine (each k l) (All-get_or _ xs k blank l t.1))),
-      )
+      let mine : Marked markers x = (left_each (Marked markers) blank xs ys x t.0 each).0 in
+      let first : First marker_before x xs = All-weaker _ _ (λ y h. sym (by_marker x y) ∙ h) xs t.1 in
+      (IsPermutation-map (λ e. e.place) xs (x ∷ ys) t.0, lowest_from_first x xs each mine first)
 
 -- The place of the entry joins the places that wait.
 pub joined_places : {X F : Type 0} (place : X → ℕ) (xs ys : List X) (x : X) (r : Result (Unit {0}) F) → Joined xs x r ys
