@@ -2,7 +2,7 @@
 ghost use Rattle.std.specs.Prelude.{◌≡◌, ◌++◌, IfOk, string_bytes, OnOk};
 ghost use Rattle.board.specs.Board.{shape_of};
 ghost use Rattle.sheet.specs.View.{board_of};
-ghost use Rattle.report.specs.Text.{refused_line, frame_lines, route_line, route_lines, board_text, described};
+ghost use Rattle.report.specs.Text.{refused_line, frame_lines, route_line, route_lines, described};
 
 use board::frame::Frame;
 use board::route::Route;
@@ -56,11 +56,11 @@ fn push_routes(text: &mut String, sheet: &Sheet) -> Result<(), AllocError>
     Ok(())
 }
 
-// The lines for the board of a sheet.
-fn board_lines(heap: Global, sheet: &Sheet) -> Result<String, AllocError>
-    ensures { IfOk result (λ s. string_bytes s ≡ board_text (board_of sheet.now)) }
+// The lines for the board of a sheet, with its frame.
+fn board_lines(heap: Global, frame: &Frame, sheet: &Sheet) -> Result<String, AllocError>
+    ensures { IfOk result (λ s. string_bytes s ≡ frame_lines (shape_of frame.now) ++ route_lines 0 (board_of sheet.now).routes) }
 {
-    let mut text = frame_lines(heap, &sheet.frame())?;
+    let mut text = frame_lines(heap, frame)?;
     push_routes(&mut text, sheet)?;
     Ok(text)
 }
@@ -69,8 +69,12 @@ fn board_lines(heap: Global, sheet: &Sheet) -> Result<String, AllocError>
 pub fn describe(heap: Global, bytes: &[u8]) -> Result<String, AllocError>
     ensures { IfOk result (λ s. string_bytes s ≡ described bytes.now) }
 {
-    match Sheet::read(bytes, ENTRIES) {
-        Ok(sheet) => board_lines(heap, &sheet),
-        Err(fault) => refused(heap, fault),
+    let sheet = match Sheet::read(bytes, ENTRIES) {
+        Ok(sheet) => sheet,
+        Err(fault) => return refused(heap, fault),
+    };
+    match sheet.frame() {
+        Ok(frame) => board_lines(heap, &frame, &sheet),
+        Err(fault) => refused(heap, SheetFault::Frame(fault)),
     }
 }

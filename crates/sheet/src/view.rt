@@ -1,38 +1,37 @@
 // An accepted sheet, as a view over the lent bytes.
 ghost use Rattle.std.specs.Prelude.{◌≡◌, ◌^◌, ◌<◌, length, slice_get};
-ghost use Rattle.board.specs.Board.{shape_of, Valid};
+ghost use Rattle.board.specs.Board.{shape_of};
+ghost use Rattle.board.specs.Questions.{map_ok, frame_answer};
 ghost use Rattle.bits.specs.Bits.{bits_of};
 ghost use Rattle.bits.specs.Fields.{width};
-ghost use Rattle.layout.specs.Format.{IsSheet};
-ghost use Rattle.layout.specs.Stated.{stated, stating, route_at};
+ghost use Rattle.layout.specs.Stated.{stating, route_at};
+ghost use Rattle.sheet.specs.View.{board_of, routes_left};
 
 use crate::routes::Routes;
 use bits::field::{Field, record_start};
 use bits::reader::field_at;
 use bits::signed::widen;
+use board::fault::FrameFault;
 use board::frame::Frame;
 use board::route::Route;
 
-// The sheet of a valid board: the lent bytes alone, off which the board is read when it is asked for. `Sheet::read`
-// makes it.
+// The board that the bytes state: the lent bytes alone, off which the board is read when it is asked for. `Sheet::read`
+// makes one only of bytes that are the sheet of a valid board. (A ghost field that said so would hinder callers: a
+// struct of a sheet and a `&mut` could not be kept in an `Option` or a `Result`.)
 #[derive(Clone, Copy)]
 pub struct Sheet<'a> {
     pub(crate) bytes: &'a [u8],
-    pub ghost valid: { ∥ Valid (stated (bits_of bytes.now)) ∥₁ },
-    pub ghost sheet: { IsSheet (stated (bits_of bytes.now)) bytes.now },
 }
 
 impl<'a> Sheet<'a> {
-    ghost use Rattle.sheet.specs.View.{board_of, routes_left};
-
-    // The board's frame.
-    pub fn frame(&self) -> Frame
-        ensures { shape_of result ≡ (board_of self.now).shape }
+    // The board's frame. It is there in every sheet that `read` accepts.
+    pub fn frame(&self) -> Result<Frame, FrameFault>
+        ensures { map_ok shape_of result ≡ frame_answer (board_of self.now).shape.places (board_of self.now).shape.home (board_of self.now).shape.port }
     {
         let places = stating(self.bytes, 0, Field::Places);
         let home = stating(self.bytes, 0, Field::Home);
         let port = stating(self.bytes, 0, Field::Port);
-        Frame::new(usize::from(places), usize::from(home), usize::from(port)).unwrap()
+        Frame::new(usize::from(places), usize::from(home), usize::from(port))
     }
 
     // How many routes the board has.
@@ -57,8 +56,10 @@ impl<'a> Sheet<'a> {
     }
 
     // The routes, in the order of their numbers.
+    #[tactic(auto, using(crate::proofs::Shown::routes_few))]
     pub fn routes(&self) -> Routes<'a>
-        ensures { routes_left result ≡ (board_of self.now).routes }
+        ensures value { routes_left result ≡ (board_of self.now).routes }
+        ensures bound { length (routes_left result) < 2 ^ 10 }
     {
         Routes {
             sheet: *self,

@@ -2,6 +2,8 @@
 #![tactic(auto)]
 
 #[cfg(test)]
+mod keeping;
+#[cfg(test)]
 mod making;
 #[cfg(test)]
 mod reading;

@@ -67,11 +67,6 @@ accepted c =
     in
     ap (λ x. answer x (stated (bits_of c.args.bytes.now))) (sym (e ∙ a.0))
 
-pub invariant_of-result : goal.invariant_of-result
-invariant_of-result c =
-    let r = reads c.args.entries c.args.bytes.now _ (accepted (goal.at.invariant_of-result c).In_ok-check_end) in
-    record { valid = ∣ r.valid ∣₁; sheet = r.sheet }
-
 pub returns : goal.returns
 returns c =
     let r = accepted (goal.at.returns c).In_ok-check_end in
