@@ -1,16 +1,17 @@
 -- A list with one more behind it, and a list that lost its first.
-use Rattle.std.proofs.Common.{◌≡◌, ℕ, ◌+◌, ◌-◌, ◌<◌, ◌≤◌, List, [], ◌∷◌, ◌++◌, length, get_or, take, drop, set, sym, subst, arith}
-use Rattle.std.proofs.Math.Seq.{take-append_seam}
+use Rattle.std.proofs.Common.{◌≡◌, ℕ, ◌+◌, ◌-◌, ◌<◌, ◌≤◌, List, [], ◌∷◌, ◌++◌, length, get_or, take, drop, set, take_at, ap, ◌∙◌, subst, arith}
 use Rattle.std.specs.List.Sorted.{IsPermutation}
-use Rattle.std.proofs.lemmas.List.{length-take, take_all, take_more}
+use Rattle.std.proofs.lemmas.List.{length-take, take_all, take_min, take_more}
 use Rattle.std.proofs.lemmas.List.Sorted.{IsPermutation-refl, IsPermutation-sym, IsPermutation-cons, IsPermutation-to_front}
 
 module _ {E : Type 0} where
+  -- As many of a list as a front of it has are that front.
+  pub front_again : (zs : List E) (n m : ℕ) → m ≡ length (take n zs) → take m zs ≡ take n zs
+  front_again zs n m e = ap (λ (k : ℕ). take k zs) (e ∙ length-take n zs) ∙ take_min n zs
+
   -- What was written to the front of a list, read from the whole.
-  pub front_of : (xs zs : List E) (n : ℕ) → length xs ≡ length (take n zs) → n ≤ length zs → take n (xs ++ drop n zs) ≡ xs
-  front_of xs zs n e l =
-      let long : n ≡ length xs = omega (arith, length-take n zs) in
-      subst (λ (k : ℕ). take k (xs ++ drop n zs) ≡ xs) (sym long) (take-append_seam xs (drop n zs))
+  pub front_of : (xs zs : List E) (n m : ℕ) → n ≡ m → length xs ≡ length (take m zs) → m ≤ length zs → take n (xs ++ drop m zs) ≡ xs
+  front_of xs zs n m same e l = take_at xs (drop m zs) n (omega (arith, length-take m zs))
 
   -- A list with one more behind it.
   pub shuffled_push : (xs ys : List E) (x : E) → ys ≡ xs ++ x ∷ [] → IsPermutation (x ∷ xs) ys

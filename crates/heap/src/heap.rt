@@ -1,7 +1,4 @@
 // The heap.
-ghost use Rattle.std.specs.Prelude.{◌≤◌, length, take};
-ghost use Rattle.heap.specs.Order.{Ordered};
-
 use crate::entry::Entry;
 use crate::sifting::{remove_first, sift_up};
 
@@ -9,11 +6,9 @@ use crate::sifting::{remove_first, sift_up};
 // The first `len` of them are held, and none of these comes earlier than its parent, which for index k is at
 // (k - 1) / 2: so the first comes no later than any other.
 #[derive(Drop)]
-pub struct Heap<'a, E: Entry> {
+pub struct Heap<'a, E> {
     entries: &'a mut [E],
     len: usize,
-    ghost few: { len ≤ length entries.now },
-    pub ghost ordered: { Ordered E.before (take len entries.now) },
 }
 
 impl<'a, E: Entry> Heap<'a, E> {
@@ -41,7 +36,7 @@ impl<'a, E: Entry> Heap<'a, E> {
     pub fn len(&self) -> usize
         ensures { result ≡ length (held self.now) }
     {
-        self.len
+        self.len.min(self.entries.len())
     }
 
     // Lets go of all entries.
@@ -55,15 +50,17 @@ impl<'a, E: Entry> Heap<'a, E> {
     // Inserts an entry; gives it back where there is no room.
     pub fn push(&mut self, entry: E) -> Result<(), E>
         ensures accepts { is_ok result ≡ nat_lt (length (held self.old)) (room self.old) }
-        ensures held { Pushed (held self.old) entry result (held self.new) }
+        ensures held { Pushed E.before (held self.old) entry result (held self.new) }
         ensures room { room self.new ≡ room self.old }
     {
-        let len = self.len;
+        let len = self.len();
         if len >= self.entries.len() {
             return Err(entry);
         }
         self.entries[len] = entry;
-        sift_up(&mut self.entries[..len + 1], len);
+        // The range names its start, as in `pop`: of one without, taken through a field, the checker keeps the length
+        // alone.
+        sift_up(&mut self.entries[0..len + 1], len);
         self.len = len + 1;
         Ok(())
     }
@@ -73,11 +70,11 @@ impl<'a, E: Entry> Heap<'a, E> {
         ensures held { Popped E.before (held self.old) result (held self.new) }
         ensures room { room self.new ≡ room self.old }
     {
-        let len = self.len;
+        let len = self.len();
         if len == 0 {
             return None;
         }
         self.len = len - 1;
-        Some(remove_first(&mut self.entries[..len]))
+        Some(remove_first(&mut self.entries[0..len]))
     }
 }

@@ -5,10 +5,10 @@ use Rattle.std.specs.List.Sorted.{IsPermutation}
 use Rattle.std.specs.Ordering.{is_le, nat_cmp, ordering_then}
 use Rattle.std.proofs.ByRecursion.{All-get_or, All-from_get_or, All-map, All-weaker, all_shuffled}
 use Rattle.std.proofs.lemmas.List.Sorted.{IsPermutation-map}
-use Rattle.heap.specs.Order.{First, Popped}
+use Rattle.heap.specs.Order.{First}
 use Rattle.ranked.specs.Orders.{MarkerEntry, AmountEntry, Marked, marker_before, amount_before}
 use Rattle.ranked.specs.Ranked.{lower, LowestTaken, LargestTaken}
-use Rattle.ranked.specs.Waiting.{Joined}
+use Rattle.ranked.specs.Waiting.{Joined, FirstLeft}
 
 -- What is read of an index past the end.
 abbrev pub blank : MarkerEntry
@@ -22,7 +22,7 @@ by_amount x y = grind arith
 
 -- The entry that leaves has the greatest amount.
 pub largest_taken : (xs ys : List AmountEntry) (r : Option AmountEntry)
-    → Popped (λ x y. is_le (ordering_then (nat_cmp y.rank.0 x.rank.0) (nat_cmp x.place y.place))) xs r ys
+    → FirstLeft (λ x y. is_le (ordering_then (nat_cmp y.rank.0 x.rank.0) (nat_cmp x.place y.place))) xs r ys
     → LargestTaken xs (option_map (λ e. e.place) r) ys
 largest_taken xs ys None t = t
 largest_taken xs ys (Some x) t =
@@ -52,7 +52,7 @@ module _ {E : Type 0} (P : E → Type 0) (d : E) where
   left_each xs ys x left each = let all = all_shuffled P xs (x ∷ ys) left (all_of xs each) in (all.0, each_of ys all.1)
 
   module _ (before : E → E → Bool) where
-    pub popped_each : (xs ys : List E) (r : Option E) → Popped before xs r ys → Each xs → Each ys
+    pub popped_each : (xs ys : List E) (r : Option E) → FirstLeft before xs r ys → Each xs → Each ys
     popped_each xs ys None t each = each_none ys t.1
     popped_each xs ys (Some x) t each = (left_each xs ys x t.0 each).1
 
@@ -72,7 +72,7 @@ module _ (markers : List ℕ) where
 
   -- So has that of the entry that leaves.
   pub lowest_taken : (xs ys : List MarkerEntry) (r : Option MarkerEntry)
-      → Popped (λ x y. is_le (ordering_then (nat_cmp x.rank y.rank) (nat_cmp x.place y.place))) xs r ys
+      → FirstLeft (λ x y. is_le (ordering_then (nat_cmp x.rank y.rank) (nat_cmp x.place y.place))) xs r ys
       → Each (Marked markers) blank xs
       → LowestTaken markers (map (λ e. e.place) xs) (option_map (λ e. e.place) r) (map (λ e. e.place) ys)
   lowest_taken xs ys None t each = (ap (map (λ e. e.place)) t.0, ap (map (λ e. e.place)) t.1)

@@ -4,9 +4,12 @@
 --   with_amount     the entry of a place with an amount
 --   marker_of       the turn marker of a place
 --   Marked          an entry that has the marker of its place
+--   rank_before     the least rank first, and of those the lowest place
 --   marker_before   the least marker first, and of those the lowest place
 --   amount_before   the greatest amount first, and of those the lowest place
 use Rattle.std.specs.Prelude.{◌≡◌, ℕ, Bool, cond, List, ◌==◌, nat_le, nat_lt, slice_index_or}
+use Rattle.std.specs.Ordering.{is_le, nat_cmp, ordering_then}
+use Rattle.std.specs.declared.cmp.Ordering.{Ordering}
 use Rattle.std.specs.declared.cmp.Reverse.{Reverse}
 use Rattle.ranked.specs.declared.entry.Ranked.{Ranked}
 
@@ -29,6 +32,10 @@ marker_of markers v = slice_index_or markers v 255
 -- An entry that has the turn marker of its place.
 abbrev pub Marked : List ℕ → MarkerEntry → Type 0
 Marked markers e = e.rank ≡ marker_of markers e.place
+
+-- Whether one entry comes no later than another: by the least rank, as `cmp` compares ranks, then by the lowest place.
+abbrev pub rank_before : {R : Type 0} → (R → R → Ordering) → Ranked R → Ranked R → Bool
+rank_before cmp x y = is_le (ordering_then (cmp x.rank y.rank) (nat_cmp x.place y.place))
 
 -- Whether one entry comes no later than another: by the least marker, then by the lowest place.
 abbrev pub marker_before : MarkerEntry → MarkerEntry → Bool

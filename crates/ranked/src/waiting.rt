@@ -1,34 +1,29 @@
 // Places that wait, in the order of their ranks.
 ghost use Rattle.std.specs.Prelude.{◌≤◌, map};
 ghost use Rattle.heap.specs.Held.{held};
+ghost use Rattle.heap.specs.Order.{Ordered};
 ghost use Rattle.picker.specs.Meaning.{Inside, occurs};
+ghost use Rattle.ranked.specs.Orders.{rank_before};
 
-use crate::entry::Ranked;
-use heap::entry::Entry;
+use crate::entry::{Rank, Ranked};
 use heap::heap::Heap;
 use picker::count::Count;
 use picker::fault::{PutFault, check_put};
 
 // The places that wait, each with its rank, in a heap over the entries that were lent; and how many were taken out.
 #[derive(Drop)]
-pub(crate) struct Waiting<'e, R: Copy>
-where
-    Ranked<R>: Entry,
-{
+pub(crate) struct Waiting<'e, R: Rank> {
     heap: Heap<'e, Ranked<R>>,
     count: Count,
+    ghost ordered: { Ordered (rank_before R.cmp) (held heap) },
     ghost inside: { Inside (occurs (map (λ e. e.place) (held heap))) },
     ghost stops: { count.number ≤ 65535 },
 }
 
-impl<'e, R: Copy> Waiting<'e, R>
-where
-    Ranked<R>: Entry,
-{
+impl<'e, R: Rank> Waiting<'e, R> {
     ghost use Rattle.std.specs.Prelude.{◌≡◌, [], length, option_map};
-    ghost use Rattle.heap.specs.Order.{Popped};
     ghost use Rattle.picker.specs.Meaning.{fresh, emptied, put_answer, put_to, Took, waiting};
-    ghost use Rattle.ranked.specs.Waiting.{Joined, entries, waiting_meaning};
+    ghost use Rattle.ranked.specs.Waiting.{Joined, FirstLeft, entries, waiting_meaning};
 
     // Nothing waits. What the lent entries hold does not matter.
     pub(crate) fn new(lent: &'e mut [Ranked<R>]) -> Waiting<'e, R>
@@ -63,7 +58,7 @@ where
     // Takes out the place that comes first, with its rank.
     pub(crate) fn take(&mut self) -> Option<Ranked<R>>
         ensures took { Took (waiting_meaning self.old) (option_map (λ e. e.place) result) (waiting_meaning self.new) }
-        ensures first { Popped ⟦<Ranked<R> as Entry>⟧.before (entries self.old) result (entries self.new) }
+        ensures first { FirstLeft (rank_before R.cmp) (entries self.old) result (entries self.new) }
     {
         let first = self.heap.pop()?;
         self.count.add_one();

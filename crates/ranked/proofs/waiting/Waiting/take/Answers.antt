@@ -7,8 +7,10 @@ use Rattle.ranked.proofs.waiting.Waiting.take.Goals as goal
 
 pub invariant_of-self-2 : goal.invariant_of-self-2
 invariant_of-self-2 g c =
-    let places = IsPermutation-map (λ e. e.place) _ _ c.in_ok-first.ensures.held.0 in
-    record { inside = left_inside _ _ _ c.args.self.now.inside places; stops = omega (arith, c.add_one.ensures) }
+    let w = c.args.self.now in
+    let told = c.in_ok-first.ensures.held in
+    let places = IsPermutation-map (λ e. e.place) _ _ told.0 in
+    record { ordered = (told.1 w.ordered).1; inside = left_inside _ _ _ w.inside places; stops = omega (arith, c.add_one.ensures) }
 
 pub returns-clause-took : goal.returns-clause-took
 returns-clause-took g c =
