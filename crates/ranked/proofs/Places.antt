@@ -21,18 +21,17 @@ module _ {E : Type 0} (place : E → ℕ) where
         → Ok tt ≡ put_check (place x) waits most
         → is_ok r ≡ ltb (length xs) room
         → Pushed before xs x r ys
-        → Ordered before xs
         → (r ≡ Ok tt) × (Ok tt ≡ put_answer (meaning_of (map place xs) room count) (place x))
-        × Ordered before ys
+        × (Ordered before xs → Ordered before ys)
         × Inside (occurs (map place ys))
         × (meaning_of (map place ys) after count ≡ put_to (meaning_of (map place xs) room count) (place x))
-    put_pushed before x waits most (Ok tt) all w m asked free joined order =
+    put_pushed before x waits most (Ok tt) all w m asked free joined =
         let told = taken_in (place x) waits most asked in
         let moved = IsPermutation-map place (x ∷ xs) ys joined.0 in
         let long : put_check (place x) waits most ≡ put_check (place x) (length (map place xs)) room = rw (w, m, waiting_occurs (map place xs) all) refl in
         let put = asked_accepted (map place xs) room count (place x) (map place ys) all (asked ∙ long) moved in
-        (refl, put.0, joined.1 order, joined_inside (place x) (map place xs) (map place ys) all told.0 moved, ap (λ n. meaning_of (map place ys) n count) same ∙ put.1)
-    put_pushed before x waits most (Err y) all w m asked free joined order =
+        (refl, put.0, joined.1, joined_inside (place x) (map place xs) (map place ys) all told.0 moved, ap (λ n. meaning_of (map place ys) n count) same ∙ put.1)
+    put_pushed before x waits most (Err y) all w m asked free joined =
         let long = waiting_places xs all in
         let told = taken_in (place x) waits most asked in
         absurd (grind (arith, told.1, long, w, m, free))

@@ -2,31 +2,39 @@
 use Rattle.std.proofs.Common.{◌≡◌, ℕ, ◌<◌, Bool, true, List, [], ◌∷◌, map, length, get_or, Some, None, Ok, Err, Option, Result, option_map, ap, ◌∙◌, sym, subst, arith}
 use Rattle.std.specs.List.{AllByRecursion}
 use Rattle.std.specs.List.Sorted.{IsPermutation}
-use Rattle.std.specs.Ordering.{is_le, nat_cmp, ordering_then}
+use Rattle.std.specs.Ordering.{nat_cmp}
 use Rattle.std.proofs.ByRecursion.{All-get_or, All-from_get_or, All-map, All-weaker, all_shuffled}
 use Rattle.std.proofs.lemmas.List.Sorted.{IsPermutation-map}
-use Rattle.heap.specs.Order.{First}
-use Rattle.ranked.specs.Orders.{MarkerEntry, AmountEntry, Marked, marker_before, amount_before}
+use Rattle.heap.specs.Order.{Ordered, First, Popped}
+use Rattle.ranked.specs.Orders.{MarkerEntry, AmountEntry, Marked, rank_before, marker_before, amount_before}
 use Rattle.ranked.specs.Ranked.{lower, LowestTaken, LargestTaken}
-use Rattle.ranked.specs.Waiting.{Joined, FirstLeft}
+use Rattle.ranked.specs.Waiting.{Joined}
 
 -- What is read of an index past the end.
 abbrev pub blank : MarkerEntry
 blank = record { rank = 0; place = 0 }
 
-by_marker : (x y : MarkerEntry) → is_le (ordering_then (nat_cmp x.rank y.rank) (nat_cmp x.place y.place)) ≡ marker_before x y
+-- The derived orders, by marker and by amount.
+abbrev pub derived_by_marker : MarkerEntry → MarkerEntry → Bool
+derived_by_marker = rank_before nat_cmp
+
+abbrev pub derived_by_amount : AmountEntry → AmountEntry → Bool
+derived_by_amount = rank_before (λ a b. nat_cmp b.0 a.0)
+
+by_marker : (x y : MarkerEntry) → derived_by_marker x y ≡ marker_before x y
 by_marker x y = grind arith
 
-by_amount : (x y : AmountEntry) → is_le (ordering_then (nat_cmp y.rank.0 x.rank.0) (nat_cmp x.place y.place)) ≡ amount_before x y
+by_amount : (x y : AmountEntry) → derived_by_amount x y ≡ amount_before x y
 by_amount x y = grind arith
 
 -- The entry that leaves has the greatest amount.
 pub largest_taken : (xs ys : List AmountEntry) (r : Option AmountEntry)
-    → FirstLeft (λ x y. is_le (ordering_then (nat_cmp y.rank.0 x.rank.0) (nat_cmp x.place y.place))) xs r ys
+    → Popped derived_by_amount xs r ys
+    → Ordered derived_by_amount xs
     → LargestTaken xs (option_map (λ e. e.place) r) ys
-largest_taken xs ys None t = t
-largest_taken xs ys (Some x) t =
-    (x.rank.0, t.0, All-weaker _ _ (λ y h. sym (by_amount x y) ∙ h) xs t.1)
+largest_taken xs ys None t o = t
+largest_taken xs ys (Some x) t o =
+    (x.rank.0, t.0, All-weaker _ _ (λ y h. sym (by_amount x y) ∙ h) xs (t.1 o).0)
 
 -- A fact of each entry of a list; d is what is read of an index past the end.
 module _ {E : Type 0} (P : E → Type 0) (d : E) where
@@ -52,7 +60,7 @@ module _ {E : Type 0} (P : E → Type 0) (d : E) where
   left_each xs ys x left each = let all = all_shuffled P xs (x ∷ ys) left (all_of xs each) in (all.0, each_of ys all.1)
 
   module _ (before : E → E → Bool) where
-    pub popped_each : (xs ys : List E) (r : Option E) → FirstLeft before xs r ys → Each xs → Each ys
+    pub popped_each : (xs ys : List E) (r : Option E) → Popped before xs r ys → Each xs → Each ys
     popped_each xs ys None t each = each_none ys t.1
     popped_each xs ys (Some x) t each = (left_each xs ys x t.0 each).1
 
@@ -72,13 +80,14 @@ module _ (markers : List ℕ) where
 
   -- So has that of the entry that leaves.
   pub lowest_taken : (xs ys : List MarkerEntry) (r : Option MarkerEntry)
-      → FirstLeft (λ x y. is_le (ordering_then (nat_cmp x.rank y.rank) (nat_cmp x.place y.place))) xs r ys
+      → Popped derived_by_marker xs r ys
+      → Ordered derived_by_marker xs
       → Each (Marked markers) blank xs
       → LowestTaken markers (map (λ e. e.place) xs) (option_map (λ e. e.place) r) (map (λ e. e.place) ys)
-  lowest_taken xs ys None t each = (ap (map (λ e. e.place)) t.0, ap (map (λ e. e.place)) t.1)
-  lowest_taken xs ys (Some x) t each =
+  lowest_taken xs ys None t o each = (ap (map (λ e. e.place)) t.0, ap (map (λ e. e.place)) t.1)
+  lowest_taken xs ys (Some x) t o each =
       let mine : Marked markers x = (left_each (Marked markers) blank xs ys x t.0 each).0 in
-      let first : First marker_before x xs = All-weaker _ _ (λ y h. sym (by_marker x y) ∙ h) xs t.1 in
+      let first : First marker_before x xs = All-weaker _ _ (λ y h. sym (by_marker x y) ∙ h) xs (t.1 o).0 in
       (IsPermutation-map (λ e. e.place) xs (x ∷ ys) t.0, lowest_from_first x xs each mine first)
 
 -- The place of the entry joins the places that wait.

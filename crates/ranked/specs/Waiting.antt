@@ -1,12 +1,10 @@
 -- The places that wait, each with its rank.
 --   Joined            putting: one more in a list, or the list as it was
---   FirstLeft         taking: the first of a list leaves, or there is none
 --   entries           the entries of the places that wait
 --   waiting_meaning   what they mean as what waits in a picker
-use Rattle.std.specs.Prelude.{◌≡◌, Bool, List, [], ◌∷◌, map, Some, None, Ok, Err, Option, Result}
+use Rattle.std.specs.Prelude.{◌≡◌, List, ◌∷◌, map, Ok, Err, Result}
 use Rattle.std.specs.List.Sorted.{IsPermutation}
 use Rattle.heap.specs.Held.{held, room}
-use Rattle.heap.specs.Order.{First}
 use Rattle.picker.specs.Meaning.{Meaning, meaning_of}
 use Rattle.ranked.specs.declared.entry.Ranked.{Ranked}
 use Rattle.ranked.specs.declared.waiting.Waiting.{Waiting}
@@ -15,12 +13,6 @@ use Rattle.ranked.specs.declared.waiting.Waiting.{Waiting}
 abbrev pub Joined : {X F : Type 0} → List X → X → Result (Unit {0}) F → List X → Type 0
 Joined xs x (Ok done) ys = IsPermutation (x ∷ xs) ys
 Joined xs x (Err fault) ys = ys ≡ xs
-
--- Taking the first by the order `before`: there is none exactly where nothing waits; otherwise just that one leaves, and
--- it comes no later than any that waited.
-abbrev pub FirstLeft : {X : Type 0} → (X → X → Bool) → List X → Option X → List X → Type 0
-FirstLeft before xs None ys = (xs ≡ []) × (ys ≡ [])
-FirstLeft before xs (Some x) ys = IsPermutation xs (x ∷ ys) × First before x xs
 
 -- The places that wait, each with its rank, in no order.
 abbrev pub entries : {R : Type 0} {ord : _} {eq : _} {partial : _} → Waiting R ord eq partial → List (Ranked R)

@@ -22,8 +22,9 @@ pub(crate) struct Waiting<'e, R: Rank> {
 
 impl<'e, R: Rank> Waiting<'e, R> {
     ghost use Rattle.std.specs.Prelude.{◌≡◌, [], length, option_map};
+    ghost use Rattle.heap.specs.Order.{Popped};
     ghost use Rattle.picker.specs.Meaning.{fresh, emptied, put_answer, put_to, Took, waiting};
-    ghost use Rattle.ranked.specs.Waiting.{Joined, FirstLeft, entries, waiting_meaning};
+    ghost use Rattle.ranked.specs.Waiting.{Joined, entries, waiting_meaning};
 
     // Nothing waits. What the lent entries hold does not matter.
     pub(crate) fn new(lent: &'e mut [Ranked<R>]) -> Waiting<'e, R>
@@ -58,7 +59,7 @@ impl<'e, R: Rank> Waiting<'e, R> {
     // Takes out the place that comes first, with its rank.
     pub(crate) fn take(&mut self) -> Option<Ranked<R>>
         ensures took { Took (waiting_meaning self.old) (option_map (λ e. e.place) result) (waiting_meaning self.new) }
-        ensures first { FirstLeft (rank_before R.cmp) (entries self.old) result (entries self.new) }
+        ensures first { Popped (rank_before R.cmp) (entries self.old) result (entries self.new) }
     {
         let first = self.heap.pop()?;
         self.count.add_one();
