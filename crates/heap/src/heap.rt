@@ -4,7 +4,8 @@ use crate::sifting::{remove_first, sift_up};
 
 // A heap of at most as many entries as are lent to it: a slice with its length beside, since nothing here allocates.
 // The first `len` of them are held, and none of these comes earlier than its parent, which for index k is at
-// (k - 1) / 2: so the first comes no later than any other.
+// (k - 1) / 2: so the first comes no later than any other. (No ghost field says so, but what `push` and `pop` promise:
+// with one, callers could have no array of heaps, and no struct of a heap for any kind of entry.)
 #[derive(Drop)]
 pub struct Heap<'a, E> {
     entries: &'a mut [E],
