@@ -69,12 +69,9 @@ fn board_lines(heap: Global, frame: &Frame, sheet: &Sheet) -> Result<String, All
 pub fn describe(heap: Global, bytes: &[u8]) -> Result<String, AllocError>
     ensures { IfOk result (λ s. string_bytes s ≡ described bytes.now) }
 {
-    let sheet = match Sheet::read(bytes, ENTRIES) {
-        Ok(sheet) => sheet,
-        Err(fault) => return refused(heap, fault),
-    };
-    match sheet.frame() {
-        Ok(frame) => board_lines(heap, &frame, &sheet),
-        Err(fault) => refused(heap, SheetFault::Frame(fault)),
+    match Sheet::read(bytes, ENTRIES) {
+        // a sheet that was read has a frame
+        Ok(sheet) => board_lines(heap, &sheet.frame().unwrap(), &sheet),
+        Err(fault) => refused(heap, fault),
     }
 }

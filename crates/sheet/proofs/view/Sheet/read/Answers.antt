@@ -1,5 +1,5 @@
 -- The header, the records and the end are asked in their order, and the first no decides.
-use Rattle.std.proofs.Common.{◌≡◌, Ok, sym, refl, ap, ◌∙◌}
+use Rattle.std.proofs.Common.{sym, refl, ap, ◌∙◌}
 use Rattle.std.proofs.lemmas.Result.{err_from_is_err_and}
 use Rattle.board.proofs.First.{refusal, acceptance}
 use Rattle.board.specs.Questions.{first_no, answer}
@@ -8,11 +8,10 @@ use Rattle.layout.proofs.Theorems.{reads}
 use Rattle.sheet.proofs.Sheets.{header_refused, records_refused, records_inside, end_decides}
 use Rattle.bits.specs.Bits.{bits_of}
 use Rattle.bits.specs.Cursor.{Cursor}
-use Rattle.layout.specs.Questions.{end_questions, sheet_fault}
+use Rattle.layout.specs.Questions.{end_questions}
 use Rattle.layout.specs.Stated.{stated}
 use Rattle.sheet.specs.View.{board_of}
 use Rattle.sheet.proofs.view.Sheet.read.Goals as goal
-use Rattle.sheet.proofs.view.Sheet.read.Goals.{In_ok-check_end}
 
 pub returns-in_err-header : goal.returns-in_err-header
 returns-in_err-header c =
@@ -54,9 +53,8 @@ returns-in_err-check_end c =
     in
     record { answer = a; lent = rw p.1 tt; reads = reads c.args.entries c.args.bytes.now _ a }
 
--- where all is accepted
-accepted : (c : In_ok-check_end) → Ok (stated (bits_of c.args.bytes.now)) ≡ answer (sheet_fault c.args.entries (bits_of c.args.bytes.now)) (stated (bits_of c.args.bytes.now))
-accepted c =
+pub returns : goal.returns
+returns c =
     let same = ap (λ (x : Cursor). x.bytes) c.new-reader.ensures in
     let t = rw same at c.in_ok-header.ensures.answer in
     let u = simp (c.in_ok-header.ensures.bytes, same) at c.in_ok-check_records.ensures in
@@ -65,9 +63,5 @@ accepted c =
     acceptance (first_no (end_questions (bits_of c.args.bytes.now) c.in_ok-header.header.routes)) tt tt
     c.in_ok-check_end.ensures
     in
-    ap (λ x. answer x (stated (bits_of c.args.bytes.now))) (sym (e ∙ a.0))
-
-pub returns : goal.returns
-returns c =
-    let r = accepted (goal.at.returns c).In_ok-check_end in
+    let r = ap (λ x. answer x (stated (bits_of c.args.bytes.now))) (sym (e ∙ a.0)) in
     record { answer = r; lent = refl; reads = reads c.args.entries c.args.bytes.now _ r }
